@@ -88,39 +88,23 @@ implies_lifts s p a b e x y before mid r types kept n q goes is xs ys at fails b
     ∙ ap (λ z. lifted_behind before (lifted s (ImpliesOf p (expr a.value) (expr z)) types)) ys
     ∙ ap (λ z. lifted_behind before (lifted s z types)) (sym (ap expr is ∙ implies_is p a b))
 
-pub links_lift : (s : ElaborationContext) (p : Place) (x : ExprTree) (ls rest : List TypedLink) (n : ℕ) (before now : List core.StmtTree) (r : Source) (types made : List Ty)
-    → rest ≡ drop n ls → has_call (linked p x ls) ≡ true
-    → lifted_as now r made ≡ lifted_behind before (right_side s (linked p (linked p x (take n ls)) rest) types)
-    → lifted_as now r made ≡ lifted_behind before (lifted s (linked p x ls) types)
-links_lift s p x ls rest n before now r types made rs call h =
-    h ∙ ap (λ z. lifted_behind before (right_side s (linked p (linked p x (take n ls)) z) types)) rs
-    ∙ ap (λ z. lifted_behind before (right_side s z types)) (linked_split p x ls n)
-    ∙ ap (lifted_behind before) (with_call s (linked p x ls) types call)
+pub chain_lifts : (s : ElaborationContext) (p : Place) (first : Box TypedExpr Global) (links : Vec TypedLink Global) (e x : TypedExpr) (ls rest : List TypedLink) (n : ℕ) (before now : List core.StmtTree) (r : Source) (types made : List Ty)
+    → e ≡ variant.Chain p first links → x ≡ first.value → ls ≡ links.items → rest ≡ drop n ls → has_call (expr e) ≡ true
+    → lifted_as now r made ≡ lifted_behind before (right_side s (linked p (linked p (expr x) (take n ls)) rest) types)
+    → lifted_as now r made ≡ lifted_behind before (lifted s (expr e) types)
+chain_lifts s p first links e x ls rest n before now r types made is xs lss rs call h =
+    h ∙ ap (λ z. lifted_behind before (right_side s (linked p (linked p (expr x) (take n ls)) z) types)) rs
+    ∙ ap (λ z. lifted_behind before (right_side s z types)) (linked_split p (expr x) ls n ∙ ap (λ z. linked p (expr x) z) lss ∙ ap (λ z. linked p (expr z) links.items) xs ∙ sym (ap expr is ∙ chain_is p first links))
+    ∙ ap (lifted_behind before) (with_call s (expr e) types call)
 
-pub chain_lifts : (s : ElaborationContext) (p : Place) (first : Box TypedExpr Global) (links : Vec TypedLink Global) (e x : TypedExpr) (ls : List TypedLink) (before : List core.StmtTree) (r : Lifted) (types : List Ty)
-    → e ≡ variant.Chain p first links → x ≡ first.value → ls ≡ links.items → has_call (expr e) ≡ true
-    → (has_call (linked p (expr x) ls) ≡ true → r ≡ lifted_behind before (lifted s (linked p (expr x) ls) types))
-    → r ≡ lifted_behind before (lifted s (expr e) types)
-chain_lifts s p first links e x ls before r types is xs lss call h =
-    let same : linked p (expr x) ls ≡ expr e = ap (λ z. linked p (expr x) z) lss ∙ ap (λ z. linked p (expr z) links.items) xs ∙ sym (ap expr is ∙ chain_is p first links) in
-    h (ap has_call same ∙ call) ∙ ap (λ z. lifted_behind before (lifted s z types)) same
-
-pub steps_lift : (s : ElaborationContext) (p : Place) (x : ExprTree) (ls rest : List TypedStep) (n : ℕ) (before now : List core.StmtTree) (r : Source) (types made : List Ty)
-    → rest ≡ drop n ls → has_call (stepped p x ls) ≡ true
-    → lifted_as now r made ≡ lifted_behind before (right_side s (stepped p (stepped p x (take n ls)) rest) types)
-    → lifted_as now r made ≡ lifted_behind before (lifted s (stepped p x ls) types)
-steps_lift s p x ls rest n before now r types made rs call h =
-    h ∙ ap (λ z. lifted_behind before (right_side s (stepped p (stepped p x (take n ls)) z) types)) rs
-    ∙ ap (λ z. lifted_behind before (right_side s z types)) (stepped_split p x ls n)
-    ∙ ap (lifted_behind before) (with_call s (stepped p x ls) types call)
-
-pub path_lifts : (s : ElaborationContext) (p : Place) (first : Box TypedExpr Global) (steps : Vec TypedStep Global) (e x : TypedExpr) (ls : List TypedStep) (before : List core.StmtTree) (r : Lifted) (types : List Ty)
-    → e ≡ variant.Path p first steps → x ≡ first.value → ls ≡ steps.items → has_call (expr e) ≡ true
-    → (has_call (stepped p (expr x) ls) ≡ true → r ≡ lifted_behind before (lifted s (stepped p (expr x) ls) types))
-    → r ≡ lifted_behind before (lifted s (expr e) types)
-path_lifts s p first steps e x ls before r types is xs lss call h =
-    let same : stepped p (expr x) ls ≡ expr e = ap (λ z. stepped p (expr x) z) lss ∙ ap (λ z. stepped p (expr z) steps.items) xs ∙ sym (ap expr is ∙ path_is p first steps) in
-    h (ap has_call same ∙ call) ∙ ap (λ z. lifted_behind before (lifted s z types)) same
+pub path_lifts : (s : ElaborationContext) (p : Place) (first : Box TypedExpr Global) (steps : Vec TypedStep Global) (e x : TypedExpr) (ls rest : List TypedStep) (n : ℕ) (before now : List core.StmtTree) (r : Source) (types made : List Ty)
+    → e ≡ variant.Path p first steps → x ≡ first.value → ls ≡ steps.items → rest ≡ drop n ls → has_call (expr e) ≡ true
+    → lifted_as now r made ≡ lifted_behind before (right_side s (stepped p (stepped p (expr x) (take n ls)) rest) types)
+    → lifted_as now r made ≡ lifted_behind before (lifted s (expr e) types)
+path_lifts s p first steps e x ls rest n before now r types made is xs lss rs call h =
+    h ∙ ap (λ z. lifted_behind before (right_side s (stepped p (stepped p (expr x) (take n ls)) z) types)) rs
+    ∙ ap (λ z. lifted_behind before (right_side s z types)) (stepped_split p (expr x) ls n ∙ ap (λ z. stepped p (expr x) z) lss ∙ ap (λ z. stepped p (expr z) steps.items) xs ∙ sym (ap expr is ∙ path_is p first steps))
+    ∙ ap (lifted_behind before) (with_call s (expr e) types call)
 
 pub new_called : (s : ElaborationContext) (p : Place) (c : ClassId) (xs : List TypedExpr) (ts : List Ty) (before now : List core.StmtTree) (vs : List core.ExprTree) (types made : List Ty)
     → ts ≡ lookups.param_types_in (lookups.constructor_of s.program c.0) → listed_as now vs made ≡ listed_behind before (arguments_of s ts (arguments (exprs xs)) types)

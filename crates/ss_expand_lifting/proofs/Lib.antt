@@ -1,4 +1,5 @@
 pub mod Joins
+pub mod Leaves
 pub mod Links
 pub mod Forms
 pub mod Arms

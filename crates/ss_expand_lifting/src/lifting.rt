@@ -79,7 +79,13 @@ fn lift(
             let begun = begin_implication(context, *place, a, code, made)?;
             Ok(lift_lazily(context, begun, b, code, made)?)
         }
-        TypedExpr::Chain(at, e, links) => Ok(lift_chain(context, *at, e, links, code, made)?),
+        TypedExpr::Chain(place, first, links) => {
+            let operand = lift_operand(context, first, code, made)?;
+            let list = links.as_slice();
+            let front = front_of_chain(context.alloc, context.numbers, *place, operand, list)?;
+            let rest = links_behind(list, front.length);
+            Ok(lift_chain(context, *place, rest, front.operand, code, made)?)
+        }
         TypedExpr::Negate(place, e) => Ok(lift_negate(context, *place, e, code, made)?),
         TypedExpr::Not(place, e) => Ok(lift_not(context, *place, e, code, made)?),
         TypedExpr::Cast(place, class, non_null, e) => {
@@ -87,22 +93,18 @@ fn lift(
             let cast = cast_of(context.alloc, *place, *class, *non_null, value)?;
             Ok(Source::Pure(cast))
         }
-        TypedExpr::Path(at, e, steps) => Ok(lift_path(context, *at, e, steps, code, made)?),
+        TypedExpr::Path(place, first, steps) => {
+            let operand = lift_operand(context, first, code, made)?;
+            let list = steps.as_slice();
+            let front = front_of_path(context.alloc, context.numbers, *place, operand, list)?;
+            let rest = steps_behind(list, front.length);
+            Ok(lift_path(context, *place, rest, front.operand, code, made)?)
+        }
         TypedExpr::New(place, class, es) => Ok(lift_new(context, *place, *class, es, code, made)?),
         TypedExpr::NewArray(at, class, e) => Ok(lift_array(context, *at, *class, e, code, made)?),
         TypedExpr::Static(at, body, _, es) => Ok(lift_static(context, *at, *body, es, code, made)?),
         TypedExpr::Base(at, method, _, es) => Ok(lift_base(context, *at, *method, es, code, made)?),
-        TypedExpr::Int(..)
-        | TypedExpr::Bool(..)
-        | TypedExpr::Null(..)
-        | TypedExpr::This(..)
-        | TypedExpr::Local(..)
-        | TypedExpr::Result(..)
-        | TypedExpr::Bound(..)
-        | TypedExpr::Old(..)
-        | TypedExpr::Quantified(..)
-        | TypedExpr::State(..)
-        | TypedExpr::Owners(..) => {
+        _ => {
             let value = plain(context.alloc, context.numbers, e)?;
             Ok(Source::Pure(value))
         }
@@ -158,43 +160,39 @@ fn begin_implication(
     })
 }
 
-// A chain with a call inside: what stands in front of the first link with a call, and then the links behind it.
+// What a chain is lifted to, of which these links are left.
 #[cycle(lifting)]
 fn lift_chain(
     context: &ElaborationContext<'_>,
     place: Place,
-    first: &TypedExpr,
     links: &[TypedLink],
+    first: Operand,
     code: &mut Code,
     made: &mut Vec<Ty>,
 ) -> Result<Source, AllocError>
-    ensures { calls.has_call (linked place (typed.expr first.now) links.now) ≡ true → IfOk result (λ r. lifted_by code.new.statements made.new r
-        ≡ lifted_behind (stmts_of code.old.statements) (elab.lifted (context_of context.now) (linked place (typed.expr first.now) links.now) made.old.items)) }
+    ensures { (e : ExprTree) → (before : List core.StmtTree) → (types : List Ty)
+        → IsOperand (context_of context.now) e before types code.old.statements made.old first → LinksGoOn place e links.now
+        → IfOk result (λ r. lifted_by code.new.statements made.new r ≡ lifted_behind before (elab.right_side (context_of context.now) (linked place e links.now) types)) }
 {
-    let operand = lift_operand(context, first, code, made)?;
-    let front = front_of_chain(context.alloc, context.numbers, place, operand, links)?;
-    let rest = links_behind(links, front.length);
-    let whole = lift_links(context, place, rest, front.operand, code, made)?;
+    let whole = lift_links(context, place, links, first, code, made)?;
     Ok(whole.source)
 }
 
-// A path with a call inside: what stands in front of the first call, and then the steps behind it.
+// What a path is lifted to, of which these steps are left.
 #[cycle(lifting)]
 fn lift_path(
     context: &ElaborationContext<'_>,
     place: Place,
-    first: &TypedExpr,
     steps: &[TypedStep],
+    first: Operand,
     code: &mut Code,
     made: &mut Vec<Ty>,
 ) -> Result<Source, AllocError>
-    ensures { calls.has_call (stepped place (typed.expr first.now) steps.now) ≡ true → IfOk result (λ r. lifted_by code.new.statements made.new r
-        ≡ lifted_behind (stmts_of code.old.statements) (elab.lifted (context_of context.now) (stepped place (typed.expr first.now) steps.now) made.old.items)) }
+    ensures { (e : ExprTree) → (before : List core.StmtTree) → (types : List Ty)
+        → IsOperand (context_of context.now) e before types code.old.statements made.old first → StepsGoOn place e steps.now
+        → IfOk result (λ r. lifted_by code.new.statements made.new r ≡ lifted_behind before (elab.right_side (context_of context.now) (stepped place e steps.now) types)) }
 {
-    let operand = lift_operand(context, first, code, made)?;
-    let front = front_of_path(context.alloc, context.numbers, place, operand, steps)?;
-    let rest = steps_behind(steps, front.length);
-    let whole = lift_steps(context, place, rest, front.operand, code, made)?;
+    let whole = lift_steps(context, place, steps, first, code, made)?;
     Ok(whole.source)
 }
 

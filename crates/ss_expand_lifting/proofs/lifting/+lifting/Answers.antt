@@ -15,8 +15,9 @@ use Rattle.ss_expand_lifting.specs.Operations.{test_of, values_of}
 use Rattle.ss_expand_lifting.proofs.Joins.{with_call, without_call, unlifted_behind, value_as_it_is, values_as_they_are, unary_kept, binary_kept, array_behind, size_kept, size_plain, values_kept, values_plain, kept_any}
 use Rattle.ss_expand_lifting.proofs.Links.{link_next_calls, step_next_calls, link_place, step_place, step_lazy, operand_along, links_go_along, steps_go_along}
 use Rattle.ss_typed.proofs.Grouping.{operation_is, is_is, as_is, field_is, element_is, length_is, call_is}
+use Rattle.ss_expand_lifting.proofs.Leaves.{others_stay}
 use Rattle.ss_expand_lifting.proofs.Sizes.{links_fall, steps_fall}
-use Rattle.ss_expand_lifting.proofs.Arms.{iff_lifts, negate_lifts, not_lifts, cast_lifts, begun_there, implies_lifts, links_lift, chain_lifts, steps_lift, path_lifts, new_called, new_lifts, new_array_lifts, static_called, static_lifts, base_called, base_lifts, call_lifts, lazily_ends, operation_lifts_lazily, operation_lifts_strictly, negation_lifts, negation_stays, argument_joins, arguments_join, link_lifts, step_lifts}
+use Rattle.ss_expand_lifting.proofs.Arms.{iff_lifts, negate_lifts, not_lifts, cast_lifts, begun_there, implies_lifts, chain_lifts, path_lifts, new_called, new_lifts, new_array_lifts, static_called, static_lifts, base_called, base_lifts, call_lifts, lazily_ends, operation_lifts_lazily, operation_lifts_strictly, negation_lifts, negation_stays, argument_joins, arguments_join, link_lifts, step_lifts}
 use Rattle.ss_expand_lifting.proofs.lifting.+lifting.Goals as goal
 
 pub lift-returns-in_ok-lift_iff-in-Iff : goal.lift-returns-in_ok-lift_iff-in-Iff
@@ -28,6 +29,13 @@ lift-returns-in_ok-lift_iff-in-Iff t c = λ h.
     let types = c.args.made.now.items in
     iff_lifts s a.place a.a a.b c.args.e.now _ _ before _ types a.is c.deref.ensures c.deref-in-Iff.ensures
     (c.in_ok-lift_iff-in-Iff.ensures x before types (c.in_ok-left-in-Iff.ensures ∙ kept_any s _ x before types c.any_object.ensures))
+
+pub lift-returns-in_ok-value-in_default : goal.lift-returns-in_ok-value-in_default
+lift-returns-in_ok-value-in_default t c = λ h.
+    let d = c.in_default in
+    unlifted_behind (stmts_of c.args.code.now.statements) _ _ c.args.made.now.items c.in_ok-value-in_default.ensures
+    ∙ ap (lifted_behind (stmts_of c.args.code.now.statements)) (sym (others_stay (context_of c.args.context.now) c.args.made.now.items c.args.e.now
+    (record { iff = d.not-Iff; implies = d.not-Implies; chain = d.not-Chain; negate = d.not-Negate; no = d.not-Not; cast = d.not-Cast; path = d.not-Path; new = d.not-New; new_array = d.not-NewArray; static = d.not-Static; base = d.not-Base })))
 
 pub lift_iff-returns : goal.lift_iff-returns
 lift_iff-returns t c = λ a before types h.
@@ -262,37 +270,47 @@ lift_base-returns t c = λ ty.
     base_called (context_of c.args.context.now) c.args.place c.args.method ty c.args.es.now _ _ _ (stmts_of c.args.code.now.statements) _ _ c.args.made.now.items _
     c.above_of-above.ensures (c.params_in-params.ensures ∙ ap lookups.param_types_in c.method_at.ensures) c.in_ok-callee.ensures c.in_ok-values.ensures
 
+pub lift-lift_chain-requires : goal.lift-lift_chain-requires
+lift-lift_chain-requires t c =
+    let a = c.in-Chain in
+    (omega (arith, links_fall a.place a.first a.links c.args.e.now _ _ _ a.is c.as_slice-list.ensures.value c.links_behind-rest.ensures), tt)
+
+pub lift-lift_path-requires : goal.lift-lift_path-requires
+lift-lift_path-requires t c =
+    let a = c.in-Path in
+    (omega (arith, steps_fall a.place a.first a.steps c.args.e.now _ _ _ a.is c.as_slice-list-in-Path.ensures.value c.steps_behind-rest.ensures), tt)
+
 pub lift-returns-in_ok-lift_chain-in-Chain : goal.lift-returns-in_ok-lift_chain-in-Chain
 lift-returns-in_ok-lift_chain-in-Chain t c = λ h.
     let a = c.in-Chain in
-    chain_lifts (context_of c.args.context.now) a.at a.e a.links c.args.e.now _ _ (stmts_of c.args.code.now.statements) _ c.args.made.now.items a.is
-    c.deref-in-Chain.ensures c.deref-in-Chain-2.ensures.value h c.in_ok-lift_chain-in-Chain.ensures
-
-pub lift_chain-returns : goal.lift_chain-returns
-lift_chain-returns t c = λ h.
     let s = context_of c.args.context.now in
     let before = stmts_of c.args.code.now.statements in
     let types = c.args.made.now.items in
-    let front = c.in_ok-front.ensures.front s _ before types _ _ refl c.in_ok-operand.ensures in
+    let front = c.in_ok-front-in-Chain.ensures.front s _ before types _ _ refl c.in_ok-operand-in-Chain.ensures in
     let rest = c.links_behind-rest.ensures in
-    let whole = c.in_ok-whole.ensures _ before types front.operand (links_go_along _ _ _ _ rest front.go_on) in
-    links_lift s c.args.place (typed.expr c.args.first.now) c.args.links.now _ _ before _ _ types _ rest h whole.lifted
+    let whole = c.in_ok-lift_chain-in-Chain.ensures _ before types front.operand (links_go_along _ _ _ _ rest front.go_on) in
+    chain_lifts s a.place a.first a.links c.args.e.now _ _ _ _ before _ _ types _ a.is c.deref-in-Chain.ensures c.as_slice-list.ensures.value rest h whole
+
+pub lift_chain-returns : goal.lift_chain-returns
+lift_chain-returns t c = λ e before types h g.
+    let whole = c.in_ok-whole.ensures e before types h g in
+    whole.lifted
 
 pub lift-returns-in_ok-lift_path-in-Path : goal.lift-returns-in_ok-lift_path-in-Path
 lift-returns-in_ok-lift_path-in-Path t c = λ h.
     let a = c.in-Path in
-    path_lifts (context_of c.args.context.now) a.at a.e a.steps c.args.e.now _ _ (stmts_of c.args.code.now.statements) _ c.args.made.now.items a.is
-    c.deref-in-Path.ensures c.deref-in-Path-2.ensures.value h c.in_ok-lift_path-in-Path.ensures
-
-pub lift_path-returns : goal.lift_path-returns
-lift_path-returns t c = λ h.
     let s = context_of c.args.context.now in
     let before = stmts_of c.args.code.now.statements in
     let types = c.args.made.now.items in
-    let front = c.in_ok-front.ensures.front s _ before types _ _ refl c.in_ok-operand.ensures in
+    let front = c.in_ok-front-in-Path.ensures.front s _ before types _ _ refl c.in_ok-operand-in-Path.ensures in
     let rest = c.steps_behind-rest.ensures in
-    let whole = c.in_ok-whole.ensures _ before types front.operand (steps_go_along _ _ _ _ rest front.go_on) in
-    steps_lift s c.args.place (typed.expr c.args.first.now) c.args.steps.now _ _ before _ _ types _ rest h whole.lifted
+    let whole = c.in_ok-lift_path-in-Path.ensures _ before types front.operand (steps_go_along _ _ _ _ rest front.go_on) in
+    path_lifts s a.place a.first a.steps c.args.e.now _ _ _ _ before _ _ types _ a.is c.deref-in-Path.ensures c.as_slice-list-in-Path.ensures.value rest h whole
+
+pub lift_path-returns : goal.lift_path-returns
+lift_path-returns t c = λ e before types h g.
+    let whole = c.in_ok-whole.ensures e before types h g in
+    whole.lifted
 
 pub lift_behind-returns-in_ok-source-in-Operation : goal.lift_behind-returns-in_ok-source-in-Operation
 lift_behind-returns-in_ok-source-in-Operation t c = λ e before types h.
