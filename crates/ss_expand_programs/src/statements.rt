@@ -174,7 +174,7 @@ struct ForHeading<'p> {
     step: &'p Option<TypedSimple>,
 }
 
-/// The place and the invariants of a loop.
+// The place and the invariants of a loop.
 #[derive(Clone, Copy)]
 struct WrittenLoop<'p> {
     place: &'p Place,

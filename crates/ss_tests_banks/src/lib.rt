@@ -1,5 +1,5 @@
-//! Tests of the class chain, of the bank and of the obligations, over their public calls. And of equality by congruence: what follows
-//! from merges, what is left when they are taken back, the reasons that are told, and 100,000 terms.
+//! Tests of the class chain, of the bank and of the obligations, over their public calls.
+//! And of equality by congruence: what follows from merges, what is left when they are taken back, the reasons, and 100,000 terms.
 #![tactic(auto)]
 
 #[cfg(test)]

@@ -1,5 +1,5 @@
-//! Tests of values that no command prints, over public calls: tokens, expressions, bodies, programs and class tables as they are read, files
-//! in memory, changes of a store, the values of expressions, and the inputs that a program admits.
+//! Tests over public calls of what no row of the suite shows: tokens and trees as they are read, class tables, and files and sinks in memory.
+//! So are changes of a store, the values of expressions, and the inputs that a program admits.
 //! They stand in a crate of their own, so that no reader and no store is proved a second time for them.
 
 #![tactic(auto)]
