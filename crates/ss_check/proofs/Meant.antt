@@ -10,13 +10,13 @@ use Rattle.ss_core.specs.Tree.{ClassTree}
 use Rattle.ss_logic.specs.Terms.{Term, Bound, App, no_terms, term_then, term_list, have_sorts}
 use Rattle.ss_logic.specs.Formulas.{Good as GoodStore, Formula, Formulas, Literal, And, Or, Forall, Exists, no_formulas, formula_then, formulas_from, formula_list, is_well_formed, are_well_formed, neg, put, put_all}
 use Rattle.ss_logic.specs.Equal.{same_term, same_symbol, same_predicate, same_formula, equal_formulas}
-use Rattle.ss_logic_rules.specs.Shapes.{when, equal}
-use Rattle.ss_logic_rules.specs.GoodRules.{good_instance_of}
-use Rattle.ss_logic_rules.proofs.Options.{when_some}
-use Rattle.ss_logic_express.specs.Invariants.{invariants_of}
-use Rattle.ss_logic_sums.specs.Sums.{LinearSum, SumFact, number_sum, sum_fact_of, add_weighted, weighted, bounded}
-use Rattle.ss_logic_derivations.specs.Steps.{Line as TreeLine, State, Open, Between, part_at, part_of, count_of, cases_of, is_cut, other_side, walk, joins, is_joined, are_exchanged, is_congruent, is_swapped, body_at, choice, good_store, fact_of, is_absurd, is_opposed, is_clash, open_cases, add_fact, split_case, cut_case, close_case, step_open, step_between, step, at_end}
-use Rattle.ss_logic_instances.proofs.Putting.{forall_formed}
+use Rattle.ss_logic.specs.Shapes.{when, equal}
+use Rattle.ss_logic.specs.GoodRules.{good_instance_of}
+use Rattle.ss_logic.proofs.Options.{when_some}
+use Rattle.ss_logic.specs.Invariants.{invariants_of}
+use Rattle.ss_logic.specs.Sums.{LinearSum, SumFact, number_sum, sum_fact_of, add_weighted, weighted, bounded}
+use Rattle.ss_logic_means.specs.Steps.{Line as TreeLine, State, Open, Between, part_at, part_of, count_of, cases_of, is_cut, other_side, walk, joins, is_joined, are_exchanged, is_congruent, is_swapped, body_at, choice, good_store, fact_of, is_absurd, is_opposed, is_clash, open_cases, add_fact, split_case, cut_case, close_case, step_open, step_between, step, at_end}
+use Rattle.ss_logic_means.proofs.Putting.{forall_formed}
 use Rattle.ss_deriv.specs.declared.line.Line.{Line}
 use Rattle.ss_deriv.specs.declared.line.Line.TheVariants.{Premise, Denied, Part, Split, Cut, Inst, Choose, Rule, Good, Invariants, Chain, Cong, Swap, Sum, Clash, Case}
 use Rattle.ss_deriv.specs.Lines.{line_in}

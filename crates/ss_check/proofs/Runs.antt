@@ -5,7 +5,7 @@ use Rattle.std.proofs.lemmas.Bool.{and_parts, ltb-true}
 use Rattle.std.specs.Prelude.{if◌then◌else◌}
 use Rattle.ss_core.specs.Tree.{ClassTree}
 use Rattle.ss_logic.specs.Formulas.{Formula}
-use Rattle.ss_logic_derivations.specs.Steps.{State, Open, Between, add_fact, fact_of, step_open, step, bad_from, Nowhere, Case as TreeCase, Cut as TreeCut, Inst as TreeInst, Rule as TreeRule, GoodLine as TreeGood, InvariantsLine as TreeInvariants, Swap as TreeSwap}
+use Rattle.ss_logic_means.specs.Steps.{State, Open, Between, add_fact, fact_of, step_open, step, bad_from, Nowhere, Case as TreeCase, Cut as TreeCut, Inst as TreeInst, Rule as TreeRule, GoodLine as TreeGood, InvariantsLine as TreeInvariants, Swap as TreeSwap}
 use Rattle.ss_terms.specs.declared.forms.TermId.{TermId}
 use Rattle.ss_terms.specs.declared.forms.FormulaId.{FormulaId}
 use Rattle.ss_deriv.specs.declared.line.Line.{Line}

@@ -3,8 +3,8 @@ use Rattle.std.specs.Prelude.{◌≡◌, List, [], ◌∷◌, map, Bool, true, f
 use Rattle.ss_core.specs.Tree.{ClassTree}
 use Rattle.ss_logic.specs.Terms.{Term}
 use Rattle.ss_logic.specs.Formulas.{Formula, Formulas, Literal, And, Or, Forall, Exists, no_formulas, formula_then, is_well_formed, put, put_all}
-use Rattle.ss_logic_rules.specs.Shapes.{when}
-use Rattle.ss_logic_derivations.specs.Steps.{Line, State, Open, Between, good_store, either_way, fact_of, add_fact, step_open}
+use Rattle.ss_logic.specs.Shapes.{when}
+use Rattle.ss_logic_means.specs.Steps.{Line, State, Open, Between, good_store, either_way, fact_of, add_fact, step_open}
 use Rattle.ss_terms.specs.declared.forms.TermId.{TermId}
 use Rattle.ss_terms.specs.declared.forms.FormulaId.{FormulaId}
 use Rattle.ss_terms.specs.Forms.{Forms, formula_at, term_at, HasTerm, HasFormula}

@@ -4,8 +4,8 @@ ghost use Rattle.std.specs.Prelude.{◌≡◌, [], ◌∷◌, ◌++◌, ◌&&◌
 ghost use Rattle.ss_core.specs.View as view;
 ghost use Rattle.ss_logic.specs.Formulas as logic;
 ghost use Rattle.ss_logic.specs.Formulas.{neg, formulas_from};
-ghost use Rattle.ss_logic_derivations.specs.Steps as steps;
-ghost use Rattle.ss_logic_derivations.specs.Steps.{choice};
+ghost use Rattle.ss_logic_means.specs.Steps as steps;
+ghost use Rattle.ss_logic_means.specs.Steps.{choice};
 ghost use Rattle.ss_terms.specs.Forms.{formula_at, formulas_at, terms_at, HasTerms, HasFormula, HasFormulas, IsGrown, IsBankOf};
 ghost use Rattle.ss_check_steps.specs.Numbered.{IsNumberOf};
 
@@ -13,8 +13,7 @@ use crate::context::CheckContext;
 use ss_core::Classes;
 use ss_logic::Sort;
 use ss_terms::{Bank, Formula, FormulaId, TermId};
-use ss_terms_avoids::{are_constants, are_new};
-use ss_terms_puts::put;
+use ss_terms_puts::{are_constants, are_new, put};
 use std::alloc::{AllocError, Global};
 
 /// The formulas in which new constants must not occur.

@@ -3,17 +3,17 @@
 ghost use Rattle.std.specs.Prelude.{option_and_then, slice_get, IfOk};
 ghost use Rattle.ss_core.specs.Chain.{IsWithinLimits};
 ghost use Rattle.ss_core.specs.View as view;
-ghost use Rattle.ss_logic_rules.specs.Rules.{instance_of};
-ghost use Rattle.ss_logic_rules.specs.GoodRules.{good_instance_of};
-ghost use Rattle.ss_logic_express.specs.Invariants.{invariants_of};
-ghost use Rattle.ss_logic_derivations.specs.Steps.{good_store};
+ghost use Rattle.ss_logic.specs.Rules.{instance_of};
+ghost use Rattle.ss_logic.specs.GoodRules.{good_instance_of};
+ghost use Rattle.ss_logic.specs.Invariants.{invariants_of};
+ghost use Rattle.ss_logic_means.specs.Steps.{good_store};
 ghost use Rattle.ss_terms.specs.Forms.{formulas_at, terms_at, HasTerms, HasFormulas, IsGrown, IsBankOf};
 ghost use Rattle.ss_check_steps.specs.Numbered.{IsNumberOf};
 
 use crate::context::CheckContext;
 use ss_check_steps::{good_store_at, known_at};
 use ss_core::Classes;
-use ss_logic_rules::{GoodRule, RuleName};
+use ss_logic::{GoodRule, RuleName};
 use ss_rules_instances::{good_instance, instance};
 use ss_terms::{Bank, FormulaId, TermId};
 use std::alloc::{AllocError, Global};
@@ -82,5 +82,5 @@ pub(crate) fn invariants(
     let Some(store) = good_store_at(bank, f) else {
         return Ok(None);
     };
-    ss_rules_invariants::invariants(alloc, bank, classes, store, ts)
+    ss_rules_instances::invariants(alloc, bank, classes, store, ts)
 }

@@ -5,7 +5,7 @@ ghost use Rattle.ss_core.specs.View as view;
 ghost use Rattle.ss_core.specs.Chain.{IsChain, IsWithinLimits, NoAlso};
 ghost use Rattle.ss_logic.specs.Formulas.{IsValid};
 ghost use Rattle.ss_logic_means.specs.Scenes.{AreInvariants};
-ghost use Rattle.ss_logic_derivations.specs.Steps.{add_fact, fact_of, step_open, step, Derives, first_bad};
+ghost use Rattle.ss_logic_means.specs.Steps.{add_fact, fact_of, step_open, step, Derives, first_bad};
 ghost use Rattle.ss_terms.specs.Forms.{formula_at, formulas_at, HasFormula, HasFormulas, IsGrown, IsBankOf};
 ghost use Rattle.ss_deriv.specs.Lines.{line_in, lines_of, is_within, all_below};
 ghost use Rattle.ss_check_steps.specs.Numbered.{IsStepped};

@@ -4,7 +4,7 @@ use Rattle.std.specs.Bool.{beq}
 use Rattle.ss_logic.specs.Terms.{Symbol, Term, App, terms_from, term_list}
 use Rattle.ss_logic.specs.Formulas.{Predicate, Formula, Literal}
 use Rattle.ss_logic.specs.Equal.{same_symbol, same_predicate}
-use Rattle.ss_logic_derivations.specs.Steps.{are_exchanged, is_congruent, is_swapped}
+use Rattle.ss_logic_means.specs.Steps.{are_exchanged, is_congruent, is_swapped}
 use Rattle.ss_terms.specs.declared.forms.TermId.{TermId}
 use Rattle.ss_terms.specs.Forms.{Forms, terms_at}
 

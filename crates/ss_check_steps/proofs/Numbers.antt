@@ -7,7 +7,7 @@ use Rattle.std.proofs.lemmas.Option.{slice_get-map}
 use Rattle.std.proofs.lemmas.Bool.{ne_eqb, eq-eqb}
 use Rattle.ss_logic.specs.Terms.{Term}
 use Rattle.ss_logic.specs.Formulas.{Formula, formulas_from, formula_list}
-use Rattle.ss_logic_derivations.specs.Steps.{part_at, part_of, other_side, walk, count_of, cases_of}
+use Rattle.ss_logic_means.specs.Steps.{part_at, part_of, other_side, walk, count_of, cases_of}
 use Rattle.ss_terms.specs.Lists.{SmallVec}
 use Rattle.ss_terms.specs.declared.forms.FormulaId.{FormulaId}
 use Rattle.ss_terms.specs.declared.forms.Formula.TheVariants.{And as AndForm, Or as OrForm}

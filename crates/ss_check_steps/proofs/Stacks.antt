@@ -3,7 +3,7 @@ use Rattle.std.proofs.Common.{◌≡◌, ℕ, ◌+◌, ◌-◌, ◌<◌, ◌≤�
 use Rattle.std.proofs.lemmas.List.{drop_more, reverse-append, take-append-le, take-take, take_all, map_push, length_push}
 use Rattle.ss_core.specs.Tree.{ClassTree}
 use Rattle.ss_logic.specs.Formulas.{Formula, is_well_formed}
-use Rattle.ss_logic_derivations.specs.Steps.{State, Open, Between, open_cases, add_fact}
+use Rattle.ss_logic_means.specs.Steps.{State, Open, Between, open_cases, add_fact}
 use Rattle.ss_terms.specs.declared.forms.FormulaId.{FormulaId}
 use Rattle.ss_terms.specs.Forms.{Forms, formula_at, formulas_at, HasFormula, HasFormulas, IsGrown}
 use Rattle.ss_terms.proofs.Grown.{HasFormula-grown, HasFormulas-grown, formulas_at-grown}

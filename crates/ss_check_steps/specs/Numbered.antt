@@ -3,7 +3,7 @@ use Rattle.std.specs.Prelude.{◌≡◌, List, [], ◌∷◌, Option, Some, None
 use Rattle.std.specs.declared.alloc.Global.{Global}
 use Rattle.ss_logic.specs.Terms.{Term, no_terms, term_then}
 use Rattle.ss_logic.specs.Formulas.{Equal, Formula, Literal}
-use Rattle.ss_logic_derivations.specs.Steps.{State}
+use Rattle.ss_logic_means.specs.Steps.{State}
 use Rattle.ss_terms.specs.declared.forms.TermId.{TermId}
 use Rattle.ss_terms.specs.declared.forms.FormulaId.{FormulaId}
 use Rattle.ss_terms.specs.Forms.{Forms, formula_at, formulas_at, term_at, HasTerm, HasFormula, HasFormulas}

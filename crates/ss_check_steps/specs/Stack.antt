@@ -1,7 +1,7 @@
 -- The cases that wait, as the code keeps them: each is a front of what is known on the path, and one formula more.
 use Rattle.std.specs.Prelude.{◌≡◌, ℕ, ◌≤◌, List, [], ◌∷◌, ◌++◌, length, take, reverse, Bool, true, false}
 use Rattle.ss_logic.specs.Formulas.{Formula}
-use Rattle.ss_logic_derivations.specs.Steps.{State, Open, Between}
+use Rattle.ss_logic_means.specs.Steps.{State, Open, Between}
 use Rattle.ss_terms.specs.declared.forms.FormulaId.{FormulaId}
 use Rattle.ss_terms.specs.Forms.{Forms, formula_at, formulas_at, HasFormula, HasFormulas}
 

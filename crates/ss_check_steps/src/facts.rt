@@ -2,8 +2,8 @@
 
 ghost use Rattle.std.specs.Prelude.{◌≡◌, ℕ, List, [], ◌∷◌, ◌++◌, Some, None, true, option_and_then, slice_get, IfOk};
 ghost use Rattle.ss_logic.specs.Equal.{same_term};
-ghost use Rattle.ss_logic_rules.specs.Shapes.{when, equal};
-ghost use Rattle.ss_logic_derivations.specs.Steps.{part_of, walk, is_congruent, is_swapped};
+ghost use Rattle.ss_logic.specs.Shapes.{when, equal};
+ghost use Rattle.ss_logic_means.specs.Steps.{part_of, walk, is_congruent, is_swapped};
 ghost use Rattle.ss_terms.specs.Forms.{formula_at, formulas_at, term_at, HasTerm, HasFormula, HasFormulas, IsGrown};
 ghost use Rattle.ss_check_steps.specs.Numbered.{IsNumberOf};
 

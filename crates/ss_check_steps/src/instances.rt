@@ -2,7 +2,7 @@
 
 ghost use Rattle.std.specs.Prelude.{◌≡◌, ℕ, List, [], ◌∷◌, ◌++◌, Some, None, true, option_and_then, slice_get, IfOk};
 ghost use Rattle.ss_core.specs.View as view;
-ghost use Rattle.ss_logic_derivations.specs.Steps.{body_at};
+ghost use Rattle.ss_logic_means.specs.Steps.{body_at};
 ghost use Rattle.ss_terms.specs.Forms.{formula_at, formulas_at, term_at, terms_at, HasTerm, HasTerms, HasFormula, HasFormulas, IsGrown, IsBankOf};
 ghost use Rattle.ss_check_steps.specs.Numbered.{IsNumberOf};
 

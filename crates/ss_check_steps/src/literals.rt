@@ -1,13 +1,14 @@
 // What single formulas and terms are.
 
-ghost use Rattle.std.specs.Prelude.{◌≡◌, List, [], ◌∷◌, Some, None, Bool, true, false, ◌&&◌, not};
+ghost use Rattle.std.specs.Prelude.{◌≡◌, [], Some, None, true, false, ◌&&◌, not};
 ghost use Rattle.ss_logic.specs.Formulas as logic;
-ghost use Rattle.ss_logic_rules.specs.Shapes.{literal_of};
-ghost use Rattle.ss_logic_derivations.specs.Steps.{is_literal, is_quantified, is_cut, is_value, is_absurd, is_false_bound, good_store};
+ghost use Rattle.ss_logic.specs.Shapes.{literal_of};
+ghost use Rattle.ss_logic_means.specs.Steps.{is_literal, is_quantified, is_cut, is_value, is_absurd, is_false_bound, good_store};
 ghost use Rattle.ss_terms.specs.Forms.{formula_at, term_at, HasTerm, HasFormula};
 ghost use Rattle.ss_check_steps.specs.Numbered.{IsTermOf, AreSidesOf, sides_of};
 
 use ss_terms::{Bank, Formula, FormulaId, Predicate, Symbol, Term, TermId};
+use ss_terms_puts::is_value;
 
 /// The sides of an equality.
 pub(crate) fn sides(bank: &Bank, f: FormulaId) -> Option<(TermId, TermId)>
@@ -70,41 +71,7 @@ pub(crate) fn is_cut_at(bank: &Bank, f: FormulaId) -> bool
     }
 }
 
-/// Whether a term is a number, a truth value, null or a class name.
-fn is_value_at(bank: &Bank, t: TermId) -> bool
-    requires { HasTerm bank.now t }
-    ensures { result ≡ is_value (term_at bank.now t) }
-{
-    match bank.term_node(t) {
-        Term::App(symbol, arguments) => is_value_form(bank, *symbol, arguments),
-        Term::Bound(_) => false,
-    }
-}
-
-fn is_value_form(bank: &Bank, symbol: Symbol, ts: &[TermId]) -> bool
-    ensures { result ≡ is_value (App (symbol_of symbol) (terms_from (terms_at bank.now ts.now))) }
-{
-    let _ = bank;
-    match ts {
-        [] => is_value_symbol(symbol),
-        _ => false,
-    }
-}
-
-fn is_value_symbol(symbol: Symbol) -> bool
-    ensures { result ≡ is_value (App (symbol_of symbol) no_terms) }
-{
-    match symbol {
-        Symbol::Number(_) => true,
-        Symbol::Fixed(_) => true,
-        Symbol::Null => true,
-        Symbol::ClassName(_) => true,
-        _ => false,
-    }
-}
-
-ghost use Rattle.ss_logic.specs.Terms.{App, Number, no_terms};
-ghost use Rattle.ss_terms.specs.Forms.{symbol_of};
+ghost use Rattle.ss_logic.specs.Terms.{App, Number};
 ghost use Rattle.ss_check_steps.specs.Numbered.{one_of, two_of};
 
 /// The number that a literal is.
@@ -176,7 +143,7 @@ fn are_different_values(bank: &Bank, x: TermId, y: TermId) -> bool
     requires right { HasTerm bank.now y }
     ensures { result ≡ (is_value (term_at bank.now x) && is_value (term_at bank.now y) && not (same_term (term_at bank.now x) (term_at bank.now y))) }
 {
-    is_value_at(bank, x) && is_value_at(bank, y) && !bank.is_same_term(x, y)
+    is_value(bank, x) && is_value(bank, y) && !bank.is_same_term(x, y)
 }
 
 ghost use Rattle.ss_logic.specs.Terms.{terms_from};

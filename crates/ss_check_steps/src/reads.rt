@@ -2,7 +2,7 @@
 
 ghost use Rattle.std.specs.Prelude.{◌≡◌, ℕ, List, [], ◌∷◌, Some, None, Bool, true, false, option_and_then, slice_get};
 ghost use Rattle.ss_logic.specs.Formulas as logic;
-ghost use Rattle.ss_logic_derivations.specs.Steps.{part_of, other_side, walk, joins, is_joined, are_exchanged, is_congruent, is_swapped, is_opposed, is_clash};
+ghost use Rattle.ss_logic_means.specs.Steps.{part_of, other_side, walk, joins, is_joined, are_exchanged, is_congruent, is_swapped, is_opposed, is_clash};
 ghost use Rattle.ss_terms.specs.Forms.{formula_at, formulas_at, term_at, terms_at, HasTerm, HasTerms, HasFormula, HasFormulas, Forms, symbol_of, predicate_of};
 ghost use Rattle.ss_logic.specs.Terms.{App, terms_from};
 ghost use Rattle.ss_logic.specs.Equal.{same_symbol, same_predicate};

@@ -2,7 +2,7 @@
 
 ghost use Rattle.std.specs.Prelude.{◌≡◌, ℕ, List, [], ◌∷◌, ◌++◌, Some, None, true, false, slice_get, IfOk};
 ghost use Rattle.ss_core.specs.View as view;
-ghost use Rattle.ss_logic_derivations.specs.Steps.{State, Open, Between, cases_of, open_cases, split_case, cut_case, close_case};
+ghost use Rattle.ss_logic_means.specs.Steps.{State, Open, Between, cases_of, open_cases, split_case, cut_case, close_case};
 ghost use Rattle.ss_terms.specs.Forms.{formula_at, formulas_at, HasFormula, HasFormulas, IsBankOf};
 ghost use Rattle.ss_check_steps.specs.Numbered.{AreNumbersOf, IsStepped};
 ghost use Rattle.ss_check_steps.specs.Stack.{AreCases, state_of, waiting_of};

@@ -3,7 +3,7 @@ use Rattle.std.specs.Prelude.{◌≡◌, ◌≤◌, ℕ, zero, suc, List, [], �
 use Rattle.std.specs.List.{list_any, list_all}
 use Rattle.ss_core.specs.declared.names.Ty.{Ty}
 use Rattle.ss_core.specs.declared.names.Ty.TheVariants as ty
-use Rattle.ss_core.specs.Tree.{ClassTree, FieldTree}
+use Rattle.ss_core.specs.Tree.{ClassTree, EntryTree, FieldTree}
 
 -- the number of a declared class is 4 and twice its place, from 0
 abbrev pub is_declared : List ClassTree → ℕ → Bool
@@ -11,6 +11,14 @@ is_declared cs t = nat_le 4 t && t % 2 == 0 && nat_le (t + 1) (4 + 2 * length cs
 
 abbrev pub declared : List ClassTree → ℕ → Option ClassTree
 declared cs t = if nat_le 4 t && t % 2 == 0 then slice_get cs ((t - 4) / 2) else None
+
+abbrev pub table_of : Option ClassTree → List EntryTree
+table_of None = []
+table_of (Some c) = c.table
+
+-- the table of methods of a class; one that isn't declared has none
+abbrev pub table : List ClassTree → ℕ → List EntryTree
+table cs t = table_of (declared cs t)
 
 -- `object`, 0, is above each class that isn't declared
 abbrev pub above_of : Option ClassTree → ℕ

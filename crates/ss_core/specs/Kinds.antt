@@ -1,5 +1,7 @@
 -- What the numbers of classes stand for.
 use Rattle.std.specs.Prelude.{ℕ, Bool, true, false, ◌==◌, ◌&&◌, ◌+◌, ◌-◌, ◌*◌, ◌/◌, ◌%◌, nat_le, if◌then◌else◌, Option, Some, None}
+use Rattle.ss_core.specs.declared.names.Ty.{Ty}
+use Rattle.ss_core.specs.declared.names.Ty.TheVariants as ty
 use Rattle.ss_core.specs.declared.class_kind.ClassKind.{ClassKind}
 use Rattle.ss_core.specs.declared.class_kind.ClassKind.TheVariants as kind
 
@@ -13,6 +15,10 @@ array_number k = 5 + 2 * k
 -- the place of the declared class with this number
 abbrev pub declared_place : ℕ → Option ℕ
 declared_place t = if nat_le 4 t && t % 2 == 0 then Some ((t - 4) / 2) else None
+
+-- the place in the list of classes, where it is the number of a declared class or of its arrays
+abbrev pub class_place : ℕ → ℕ
+class_place t = (t - 4) / 2
 
 -- an array of `int`, `bool`, `object` or a declared class
 abbrev pub is_array_number : ℕ → Bool
@@ -34,3 +40,12 @@ abbrev pub is_array : ClassKind → Bool
 is_array kind.Object = false
 is_array (kind.Declared k) = false
 is_array _ = true
+
+-- The elements of an array by its class: `int[]` is 1, `bool[]` 2, `object[]` 3, and the array of a declared class comes after it.
+-- References among them may be null.
+abbrev pub element_type : ℕ → Ty
+element_type t =
+    if t == 1 then ty.Int
+    else if t == 2 then ty.Bool
+    else if t == 3 then ty.Ref (record { 0 = 0 }) false
+    else ty.Ref (record { 0 = t - 1 }) false

@@ -1,9 +1,9 @@
 // The class chain: which class stands above another, and which classes are below one.
 
-ghost use Rattle.std.specs.Prelude.{◌≡◌, ◌≤◌, length, option_map, slice_get};
-ghost use Rattle.ss_core.specs.View.{classes, class_of, field_of};
+ghost use Rattle.std.specs.Prelude.{◌≡◌, ◌≤◌, length, map, option_map, slice_get};
+ghost use Rattle.ss_core.specs.View.{classes, class_of, entry_of, field_of};
 
-use crate::class::{Class, Classes, Field};
+use crate::class::{Class, Classes, Entry, Field};
 use crate::class_kind::ClassKind;
 use crate::names::{ClassId, FieldId};
 
@@ -35,7 +35,7 @@ impl Class {
 }
 
 impl Classes {
-    ghost use Rattle.ss_core.specs.Chain.{declared, above, level_above, counts_as, sub, below, in_class, all_fields, most_classes};
+    ghost use Rattle.ss_core.specs.Chain.{declared, table, above, level_above, counts_as, sub, below, in_class, all_fields, most_classes};
 
     /// The declared class of this number.
     pub fn declared(&self, t: ClassId) -> Option<&Class>
@@ -44,6 +44,16 @@ impl Classes {
         match t.kind() {
             ClassKind::Declared(place) => self.list.get(place),
             _ => None,
+        }
+    }
+
+    /// The table of methods of the class. One that isn't declared has none.
+    pub fn table(&self, t: ClassId) -> &[Entry]
+        ensures { map entry_of result.now ≡ table (classes self.now) t.0 }
+    {
+        match self.declared(t) {
+            Some(class) => class.table.as_slice(),
+            None => &[],
         }
     }
 

@@ -1,9 +1,9 @@
 // What the numbers of classes stand for.
 
 ghost use Rattle.std.specs.Prelude.{◌≡◌};
-ghost use Rattle.ss_core.specs.Kinds.{kind_of, place_of, is_array, declared_place, is_array_number};
+ghost use Rattle.ss_core.specs.Kinds.{kind_of, place_of, is_array, declared_place, is_array_number, class_place, element_type};
 
-use crate::names::ClassId;
+use crate::names::{ClassId, Ty};
 
 /// What the number of a class stands for.
 #[derive(Clone, Copy, Debug, PartialEq, Eq)]
@@ -91,6 +91,29 @@ impl ClassId {
         ensures { result ≡ declared_place self.0 }
     {
         declared_place(usize::from(self.0))
+    }
+
+    /// The place in the list of classes, where it is the number of a declared class or of its arrays.
+    pub fn list_place(self) -> usize
+        ensures { result ≡ class_place self.0 }
+    {
+        usize::from(self.0).saturating_sub(4) / 2
+    }
+
+    /// The type of the elements, where it is the number of an array class. References among them may be null.
+    pub fn element_type(self) -> Ty
+        ensures { result ≡ element_type self.0 }
+    {
+        let class = match self.0 {
+            1 => return Ty::Int,
+            2 => return Ty::Bool,
+            3 => ClassId(0),
+            array => ClassId(array.saturating_sub(1)),
+        };
+        Ty::Ref {
+            class,
+            non_null: false,
+        }
     }
 
     /// Whether it is the number of an array class.

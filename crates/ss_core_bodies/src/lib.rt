@@ -18,7 +18,7 @@ pub fn body_at(core: &Core, number: BodyId) -> Option<&Body>
 pub fn method_at(core: &Core, class: ClassId, place: usize) -> Option<&Body>
     ensures { option_map (λ b. view.body b.now) result ≡ typed.method_at (view.core core.now) class.0 place }
 {
-    let entry = core.classes.declared(class)?.table.get(place)?;
+    let entry = core.classes.table(class).get(place)?;
     body_at(core, entry.body)
 }
 

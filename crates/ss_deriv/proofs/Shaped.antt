@@ -4,11 +4,11 @@ use Rattle.std.specs.Prelude.{◌&&◌, ◌==◌, slice_get}
 use Rattle.std.proofs.lemmas.List.{length-append, length-map}
 use Rattle.std.proofs.lemmas.Bool.{eqb-true}
 use Rattle.ss_core.specs.Tree.{ClassTree}
-use Rattle.ss_logic_rules.specs.Shapes.{when}
-use Rattle.ss_logic_rules.proofs.Options.{when_some, and_then_some}
+use Rattle.ss_logic.specs.Shapes.{when}
+use Rattle.ss_logic.proofs.Options.{when_some, and_then_some}
 use Rattle.ss_logic.specs.Formulas.{Formula, And, Or, Forall, Exists, Literal, Formulas, no_formulas, formula_then, formula_list, is_well_formed, neg}
-use Rattle.ss_logic_derivations.specs.Steps as tree
-use Rattle.ss_logic_derivations.specs.Steps.{State, Open, Between, count_of, cases_of, open_cases, add_fact, is_clash, is_cut, fact_of, step, run, Derives}
+use Rattle.ss_logic_means.specs.Steps as tree
+use Rattle.ss_logic_means.specs.Steps.{State, Open, Between, count_of, cases_of, open_cases, add_fact, is_clash, is_cut, fact_of, step, run, Derives}
 use Rattle.ss_deriv.specs.Shape.{Place, InCase, BetweenCases, after, after_all}
 use Rattle.ss_deriv.specs.Trees.{turn, EndsEachCase}
 

@@ -1,7 +1,7 @@
 -- The lines that numbers of a bank stand for.
 use Rattle.std.specs.Prelude.{ℕ, ◌*◌, List, length, map, Bool, true, ◌&&◌, nat_lt, if◌then◌else◌}
 use Rattle.std.specs.List.{list_all}
-use Rattle.ss_logic_derivations.specs.Steps as tree
+use Rattle.ss_logic_means.specs.Steps as tree
 use Rattle.ss_terms.specs.declared.forms.TermId.{TermId}
 use Rattle.ss_terms.specs.Forms.{Forms, term_at, terms_at, formula_at}
 use Rattle.ss_deriv.specs.declared.line.Line.{Line}

@@ -1,6 +1,6 @@
 -- The shape of derivations over formulas.
 use Rattle.std.specs.Prelude.{◌≡◌, List, map, Some}
-use Rattle.ss_logic_derivations.specs.Steps.{Line, Premise, Denied, Part, Split, Cut, Inst, Choose, Rule, GoodLine, InvariantsLine, Chain, Cong, Swap, Sum, Clash, Case, Nowhere}
+use Rattle.ss_logic_means.specs.Steps.{Line, Premise, Denied, Part, Split, Cut, Inst, Choose, Rule, GoodLine, InvariantsLine, Chain, Cong, Swap, Sum, Clash, Case, Nowhere}
 use Rattle.ss_deriv.specs.Shape.{Turn, Stay, Branch, Resume, InCase, BetweenCases, after_all}
 
 -- what a line over formulas does to the cases

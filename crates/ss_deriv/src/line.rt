@@ -2,7 +2,7 @@
 
 ghost use Rattle.std.specs.Prelude.{◌≡◌};
 
-use ss_logic_rules::{GoodRule, RuleName};
+use ss_logic::{GoodRule, RuleName};
 use ss_terms::{FormulaId, TermId};
 use std::marker::Model;
 

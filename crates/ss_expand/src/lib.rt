@@ -9,7 +9,7 @@ ghost use Rattle.ss_resolver_rules.specs.Programs.{resolved};
 ghost use Rattle.ss_store_rules.specs.Formed.{IsFormed};
 ghost use Rattle.ss_expand_rules.specs.Elaborated.{elaborated};
 ghost use Rattle.ss_expand_programs.specs.Limits.{HasFewClasses};
-ghost use Rattle.ss_expand_formed_whole.specs.Laws.{HasNoFault};
+ghost use Rattle.ss_expand_formed.specs.Whole.{HasNoFault};
 
 use ss_core::Core;
 use ss_typed::Typed;

@@ -24,10 +24,7 @@ pub fn above_of(program: &Typed, class: ClassId) -> ClassId
 pub fn table(program: &Typed, class: ClassId) -> &[Entry]
     ensures { map core.entry_of result.now ≡ elab.table (typed.typed program.now) class.0 }
 {
-    match program.classes.declared(class) {
-        Some(declared) => declared.table.as_slice(),
-        None => &[],
-    }
+    program.classes.table(class)
 }
 
 /// The written body that stands at this place of the class's table.

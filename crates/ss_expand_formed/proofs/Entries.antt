@@ -13,7 +13,7 @@ use Rattle.ss_resolver_names_rules.specs.Faults.{is_listed}
 use Rattle.ss_resolver_rules.specs.Numbers.{method_id, names_of, method_names, declared_entry, overridden, added, table_along, table}
 use Rattle.ss_resolver_rules.specs.Programs.{resolved}
 use Rattle.ss_expand_rules.specs.Program as program
-use Rattle.ss_expand_rules.specs.Program.{table_in}
+use Rattle.ss_expand_rules.specs.Program.{table_of}
 use Rattle.ss_expand_formed.proofs.Searching.{at_front, at_back, place_found, any_at, any-map, filtered_from, filter_keeps}
 use Rattle.ss_expand_formed.proofs.Places.{source_of, named_method, IsMethod, listed_methods}
 
@@ -64,7 +64,7 @@ module _ (p : ProgramTree) where
       (λ r. added_are k up r.0 e r.1)
       (append_from (map (overridden p.classes k) up) (added p.classes k up) n e h)
 
-  entry_in : (t m : ℕ) (e : core.EntryTree) (o : Option core.ClassTree) → declared (resolved p).classes t ≡ o → slice_get (table_in o) m ≡ Some e → IsMethod p e
+  entry_in : (t m : ℕ) (e : core.EntryTree) (o : Option core.ClassTree) → declared (resolved p).classes t ≡ o → slice_get (table_of o) m ≡ Some e → IsMethod p e
   entry_in t m e None is h = absurd (let z : ⊥ = cc in z)
   entry_in t m e (Some c) is h =
       let s = source_of p t c is in

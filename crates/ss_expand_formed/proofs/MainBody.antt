@@ -26,7 +26,7 @@ use Rattle.ss_tables.specs.Scopes.{class_scope}
 use Rattle.ss_resolver_rules.specs.Names.{Env}
 use Rattle.ss_resolver_rules.specs.Numbers.{type_id, method_id, method_names}
 use Rattle.ss_resolver_rules.specs.Programs.{param, method_env, method_body, main_from, resolved}
-use Rattle.ss_expand_rules.specs.Program.{table, table_in, method_at, Method, is_declared_by, is_own, place_in, number_of, number_of_written}
+use Rattle.ss_expand_rules.specs.Program.{table, table_of, method_at, Method, is_declared_by, is_own, place_in, number_of, number_of_written}
 use Rattle.ss_typed.specs.Lookups.{body_at}
 use Rattle.ss_expand_rules.specs.Contracts.{declarations}
 use Rattle.ss_expand_rules.specs.Bodies.{param_of, written_body}
@@ -256,7 +256,7 @@ module _ (p : ProgramTree) (k : ℕ) (c : ClassTree) (there : slice_get p.classe
       let listed : is_listed (method_names c.members) m.name.text ≡ true = listed_methods c.members m.name.text ∙ any_at (λ (x : MethodTree). bytes_eq m.name.text x.name.text) (methods_in c.members) place m at self in
       let entry = own_entry p k c there m.name.text listed in
       let d = class_at p k c there in
-      let in_table : slice_get (table (resolved p) t) entry.0 ≡ Some entry.1 = ap (λ (o : Option core.ClassTree). slice_get (table_in o) entry.0) d ∙ entry.2 in
+      let in_table : slice_get (table (resolved p) t) entry.0 ≡ Some entry.1 = ap (λ (o : Option core.ClassTree). slice_get (table_of o) entry.0) d ∙ entry.2 in
       let f = place_found (λ (e : core.EntryTree). e.body == n) (table (resolved p) t) (any_at (λ (e : core.EntryTree). e.body == n) (table (resolved p) t) entry.0 entry.1 in_table (eq-eqb entry.1.body n entry.3)) in
       let q = place_in n (table (resolved p) t) in
       let here : body_at (resolved p) f.it.body ≡ Some b = ap (body_at (resolved p)) (eqb-true f.it.body n f.passes) ∙ body in

@@ -11,7 +11,7 @@ use Rattle.ss_ast.specs.Programs.{ClassTree}
 use Rattle.ss_tables.specs.Members.{MethodTree, ConstructorTree, methods_in, constructors_in}
 use Rattle.ss_typed.specs.Tree.{BodyTree, TypedTree}
 use Rattle.ss_resolver_rules.specs.Programs.{constructor_body, method_body, bodies_of, bodies_from, each}
-use Rattle.ss_expand_rules.specs.Program.{table_in, table, method_at}
+use Rattle.ss_expand_rules.specs.Program.{table_of, table, method_at}
 use Rattle.ss_typed.specs.Lookups.{body_at}
 use Rattle.ss_expand_rules.specs.Elaborated.{classes_from, elaborated}
 
@@ -70,7 +70,7 @@ stays_declared p t c h =
     subst (λ u. is_declared (elaborated p).classes u ≡ true) (sym at.1) (number_declared (elaborated p).classes at.0 (omega arith))
 
 -- a class with a method is declared
-table_declared : (o : Option core.ClassTree) (m : ℕ) (e : core.EntryTree) → slice_get (table_in o) m ≡ Some e → (c : core.ClassTree) × (o ≡ Some c)
+table_declared : (o : Option core.ClassTree) (m : ℕ) (e : core.EntryTree) → slice_get (table_of o) m ≡ Some e → (c : core.ClassTree) × (o ≡ Some c)
 table_declared None m e h = absurd (let x : ⊥ = cc in x)
 table_declared (Some c) m e h = (c, refl)
 

@@ -18,7 +18,7 @@ use Rattle.ss_resolver_names_rules.specs.Faults.{is_listed}
 use Rattle.ss_resolver_rules.specs.Numbers.{number_or_object, method_id, names_of, method_names, declared_entry, overridden, added, table_along, table}
 use Rattle.ss_resolver_rules.specs.Programs.{method_body, resolved}
 use Rattle.ss_expand_rules.specs.Program as program
-use Rattle.ss_expand_rules.specs.Program.{method_at, table_in, Origin, Constructor, Method, is_declared_by, is_own, number_of, number_of_written, entry_number, entries_from}
+use Rattle.ss_expand_rules.specs.Program.{method_at, Origin, Constructor, Method, is_declared_by, is_own, number_of, number_of_written, entry_number, entries_from}
 use Rattle.ss_typed.specs.Lookups.{body_at}
 use Rattle.ss_expand_rules.specs.Bodies.{written_body}
 use Rattle.ss_store_rules.specs.Typed.{table_of}
@@ -132,7 +132,7 @@ module _ (p : ProgramTree) (faultless : program_faults p ≡ []) where
       let same : e.name ≡ r.0.name.text = (bytes_eq-Decides e.name r.0.name.text).0 r.2 in
       let body : body_at (resolved p) e.body ≡ Some b = ap (body_at (resolved p)) x.number ∙ r.3 in
       let d = class_at p k c at in
-      let in_table : slice_get (program.table (resolved p) t) m ≡ Some e = ap (λ (o : Option core.ClassTree). slice_get (table_in o) m) d ∙ h in
+      let in_table : slice_get (program.table (resolved p) t) m ≡ Some e = ap (λ (o : Option core.ClassTree). slice_get (table_of o) m) d ∙ h in
       let method : method_at (resolved p) t m ≡ Some b = ap (option_and_then (λ (z : core.EntryTree). body_at (resolved p) z.body)) in_table ∙ body in
       let l = slice_get_within p.classes k c at in
       let choice = λ (z : Bool). is_method cs t e (store.body_at (core_of p) (if z then number_of (resolved p) (Method t m) else number_of_written (resolved p) e.body)) in

@@ -18,7 +18,7 @@ use Rattle.ss_resolver_names_rules.specs.Faults.{is_listed}
 use Rattle.ss_resolver_rules.specs.Numbers.{number_or_object, names_of, method_names, declared_entry, overridden, added, table_along, table}
 use Rattle.ss_resolver_rules.specs.Programs.{method_body, resolved}
 use Rattle.ss_expand_rules.specs.Program as program
-use Rattle.ss_expand_rules.specs.Program.{method_at, table_in, Method, is_declared_by, is_own, number_of, number_of_written, entry_number, entries_from}
+use Rattle.ss_expand_rules.specs.Program.{method_at, Method, is_declared_by, is_own, number_of, number_of_written, entry_number, entries_from}
 use Rattle.ss_typed.specs.Lookups.{body_at}
 use Rattle.ss_store_rules.specs.Typed.{table_of}
 use Rattle.ss_store_rules.specs.Typed as store
@@ -56,7 +56,7 @@ module _ (p : ProgramTree) where
       let declared_there : is_declared_by t (Some b) ≡ true = eq-eqb t t refl in
       let own : is_own t (body_at (resolved p) e.body) ≡ true = ap (is_own t) r.3 ∙ or_left (is_declared_by t (Some b)) _ declared_there in
       let d = class_at p k c at in
-      let in_table : slice_get (program.table (resolved p) t) m ≡ Some e = ap (λ (o : Option core.ClassTree). slice_get (table_in o) m) d ∙ h in
+      let in_table : slice_get (program.table (resolved p) t) m ≡ Some e = ap (λ (o : Option core.ClassTree). slice_get (table_of o) m) d ∙ h in
       let method : method_at (resolved p) t m ≡ Some b = ap (option_and_then (λ (z : core.EntryTree). body_at (resolved p) z.body)) in_table ∙ r.3 in
       let origin : IsOrigin (resolved p) (Method t m) = OfMethod {t = t} {m = m} {e = e} d in_table own in
       let y = there p (Method t m) origin in

@@ -1,1 +1,16 @@
 pub mod Laws
+pub mod Order
+pub mod Locals
+pub mod Members
+pub mod Types
+pub mod Tables
+pub mod Assigned
+pub mod Construction
+pub mod Fields
+pub mod Fitting
+pub mod Bodies
+pub mod ContractLaws
+pub mod Typed
+pub mod Nulls
+pub mod Whole
+pub mod Admissible

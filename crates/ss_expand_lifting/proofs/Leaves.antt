@@ -34,21 +34,21 @@ pub record IsOther (e : TypedExpr) : Type 0 where
   pub base : (p : Place) (m : ℕ) (t : Option Ty) (es : Vec TypedExpr Global) → e ≡ variant.Base p m t es → ⊥
 
 module _ (s : ElaborationContext) (types : List Ty) (e : TypedExpr) where
-  as_told : (x : ExprTree) → expr e ≡ x → lifted s x types ≡ unlifted (plain s.numbers x) types → lifted s (expr e) types ≡ unlifted (plain s.numbers (expr e)) types
-  as_told x is h = ap (λ z. lifted s z types) is ∙ h ∙ sym (ap (λ z. unlifted (plain s.numbers z) types) is)
+  by_its_tree : (x : ExprTree) → expr e ≡ x → lifted s x types ≡ unlifted (plain s.numbers x) types → lifted s (expr e) types ≡ unlifted (plain s.numbers (expr e)) types
+  by_its_tree x is h = ap (λ z. lifted s z types) is ∙ h ∙ sym (ap (λ z. unlifted (plain s.numbers z) types) is)
 
   by_form : (y : TypedExpr-F TypedExpr TypedLink TypedStep) → e ≡ roll-TypedExpr y → IsOther e → lifted s (expr e) types ≡ unlifted (plain s.numbers (expr e)) types
-  by_form (shape.Int p n) is o = as_told _ (ap expr is ∙ fold-roll-TypedExpr ExprTree Behind Behind expr_step link_step step_step (shape.Int p n)) refl
-  by_form (shape.Bool p b) is o = as_told _ (ap expr is ∙ fold-roll-TypedExpr ExprTree Behind Behind expr_step link_step step_step (shape.Bool p b)) refl
-  by_form (shape.Null p) is o = as_told _ (ap expr is ∙ fold-roll-TypedExpr ExprTree Behind Behind expr_step link_step step_step (shape.Null p)) refl
-  by_form (shape.This p t) is o = as_told _ (ap expr is ∙ fold-roll-TypedExpr ExprTree Behind Behind expr_step link_step step_step (shape.This p t)) refl
-  by_form (shape.Local p x t) is o = as_told _ (ap expr is ∙ fold-roll-TypedExpr ExprTree Behind Behind expr_step link_step step_step (shape.Local p x t)) refl
-  by_form (shape.Result p t) is o = as_told _ (ap expr is ∙ fold-roll-TypedExpr ExprTree Behind Behind expr_step link_step step_step (shape.Result p t)) refl
-  by_form (shape.Bound p n) is o = as_told _ (ap expr is ∙ fold-roll-TypedExpr ExprTree Behind Behind expr_step link_step step_step (shape.Bound p n)) refl
-  by_form (shape.Old p a) is o = as_told _ (ap expr is ∙ fold-roll-TypedExpr ExprTree Behind Behind expr_step link_step step_step (shape.Old p a)) refl
-  by_form (shape.Quantified p q n low high a) is o = as_told _ (ap expr is ∙ fold-roll-TypedExpr ExprTree Behind Behind expr_step link_step step_step (shape.Quantified p q n low high a)) refl
-  by_form (shape.State p w a) is o = as_told _ (ap expr is ∙ fold-roll-TypedExpr ExprTree Behind Behind expr_step link_step step_step (shape.State p w a)) refl
-  by_form (shape.Owners p w a b) is o = as_told _ (ap expr is ∙ fold-roll-TypedExpr ExprTree Behind Behind expr_step link_step step_step (shape.Owners p w a b)) refl
+  by_form (shape.Int p n) is o = by_its_tree _ (ap expr is ∙ fold-roll-TypedExpr ExprTree Behind Behind expr_step link_step step_step (shape.Int p n)) refl
+  by_form (shape.Bool p b) is o = by_its_tree _ (ap expr is ∙ fold-roll-TypedExpr ExprTree Behind Behind expr_step link_step step_step (shape.Bool p b)) refl
+  by_form (shape.Null p) is o = by_its_tree _ (ap expr is ∙ fold-roll-TypedExpr ExprTree Behind Behind expr_step link_step step_step (shape.Null p)) refl
+  by_form (shape.This p t) is o = by_its_tree _ (ap expr is ∙ fold-roll-TypedExpr ExprTree Behind Behind expr_step link_step step_step (shape.This p t)) refl
+  by_form (shape.Local p x t) is o = by_its_tree _ (ap expr is ∙ fold-roll-TypedExpr ExprTree Behind Behind expr_step link_step step_step (shape.Local p x t)) refl
+  by_form (shape.Result p t) is o = by_its_tree _ (ap expr is ∙ fold-roll-TypedExpr ExprTree Behind Behind expr_step link_step step_step (shape.Result p t)) refl
+  by_form (shape.Bound p n) is o = by_its_tree _ (ap expr is ∙ fold-roll-TypedExpr ExprTree Behind Behind expr_step link_step step_step (shape.Bound p n)) refl
+  by_form (shape.Old p a) is o = by_its_tree _ (ap expr is ∙ fold-roll-TypedExpr ExprTree Behind Behind expr_step link_step step_step (shape.Old p a)) refl
+  by_form (shape.Quantified p q n low high a) is o = by_its_tree _ (ap expr is ∙ fold-roll-TypedExpr ExprTree Behind Behind expr_step link_step step_step (shape.Quantified p q n low high a)) refl
+  by_form (shape.State p w a) is o = by_its_tree _ (ap expr is ∙ fold-roll-TypedExpr ExprTree Behind Behind expr_step link_step step_step (shape.State p w a)) refl
+  by_form (shape.Owners p w a b) is o = by_its_tree _ (ap expr is ∙ fold-roll-TypedExpr ExprTree Behind Behind expr_step link_step step_step (shape.Owners p w a b)) refl
   by_form (shape.Iff p a b) is o = absurd (o.iff p a b (is ∙ variant.rolls-Iff p a b))
   by_form (shape.Implies p a b) is o = absurd (o.implies p a b (is ∙ variant.rolls-Implies p a b))
   by_form (shape.Chain p a ls) is o = absurd (o.chain p a ls (is ∙ variant.rolls-Chain p a ls))

@@ -2,6 +2,7 @@
 use Rattle.std.specs.Prelude.{ℕ, ◌+◌, ◌==◌, List, [], ◌∷◌, ◌++◌, Bool, false, not, ◌&&◌, ◌||◌, if◌then◌else◌, Option, Some, None, option_and_then, unwrap_or, position, slice_get}
 use Rattle.ss_core.specs.Tree.{ClassTree, EntryTree}
 use Rattle.ss_core.specs.Chain.{declared, above, DeclaredField, all_fields}
+pub use Rattle.ss_core.specs.Chain.{table_of}
 use Rattle.ss_typed.specs.Tree.{BodyTree, TypedTree}
 use Rattle.ss_typed.specs.Lookups.{body_at}
 
@@ -10,13 +11,9 @@ use Rattle.ss_typed.specs.Lookups.{body_at}
 abbrev pub above_of : TypedTree → ℕ → ℕ
 above_of p t = above p.classes t
 
-abbrev pub table_in : Option ClassTree → List EntryTree
-table_in None = []
-table_in (Some c) = c.table
-
 -- the table of a class's methods, which names written bodies; `object` has none
 abbrev pub table : TypedTree → ℕ → List EntryTree
-table p t = table_in (declared p.classes t)
+table p t = table_of (declared p.classes t)
 
 -- the written body that stands at this place of the class's table
 abbrev pub method_at : TypedTree → ℕ → ℕ → Option BodyTree

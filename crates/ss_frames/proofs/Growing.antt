@@ -4,10 +4,10 @@ use Rattle.std.proofs.lemmas.List.{take_more, map_push}
 use Rattle.ss_core.specs.declared.names.ClassId.{ClassId}
 use Rattle.ss_logic.specs.declared.Sort.TheVariants as sort
 use Rattle.ss_logic.specs.Terms.{Term, Element, app}
-use Rattle.ss_logic_rules.specs.Shapes.{equal, allocated, ready, group, owner_of}
+use Rattle.ss_logic.specs.Shapes.{equal, allocated, ready, group, owner_of}
 use Rattle.ss_logic.specs.Formulas.{Formula, And, Or, neg, neg_all, formulas_from, formula_then}
-use Rattle.ss_logic_frames.specs.Frames as logic
-use Rattle.ss_logic_frames.specs.Frames.{NamesField, NamesAll, NamesUpto, NamesElements, OwnerTerm, is_named, unless, or_of, and_of, in_group_of, owned_by}
+use Rattle.ss_logic.specs.Frames as logic
+use Rattle.ss_logic.specs.Frames.{NamesField, NamesAll, NamesUpto, NamesElements, OwnerTerm, is_named, unless, or_of, and_of, in_group_of, owned_by}
 use Rattle.ss_terms.specs.declared.forms.TermId.{TermId}
 use Rattle.ss_terms.specs.declared.forms.FormulaId.{FormulaId}
 use Rattle.ss_terms.specs.Forms.{Forms, term_at, formula_at, formulas_at, HasTerm, HasFormula, HasFormulas, AreBelow, IsGrown}

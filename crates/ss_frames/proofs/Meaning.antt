@@ -5,10 +5,10 @@ use Rattle.ss_logic.specs.declared.Sort.TheVariants as sort
 use Rattle.ss_logic.specs.Values.{Structure}
 use Rattle.ss_logic.specs.Terms.{Term, have_sorts}
 use Rattle.ss_logic.specs.Formulas.{True}
-use Rattle.ss_logic_frames.specs.Frames.{CallTerms, kept, grown}
-use Rattle.ss_logic_frames.specs.Means.{IsKept, IsGrown, store_of}
-use Rattle.ss_logic_frames.specs.Sorted.{AreSorted}
-use Rattle.ss_logic_frames.proofs.Kept.{kept_from, kept_to, grown_from, grown_to}
+use Rattle.ss_logic.specs.Frames.{CallTerms, kept, grown}
+use Rattle.ss_logic.specs.FrameMeans.{IsKept, IsGrown, store_of}
+use Rattle.ss_logic.specs.Sorted.{AreSorted}
+use Rattle.ss_logic.proofs.Kept.{kept_from, kept_to, grown_from, grown_to}
 use Rattle.ss_terms.specs.declared.forms.FormulaId.{FormulaId}
 use Rattle.ss_terms.specs.Forms.{Forms, formula_at, HasFormula}
 

@@ -5,8 +5,8 @@ use Rattle.ss_core.specs.Tree.{ClassTree}
 use Rattle.ss_core.specs.Chain.{sub}
 use Rattle.ss_store_rules.specs.Changes.{field_class}
 use Rattle.ss_logic.specs.Formulas.{Formula}
-use Rattle.ss_logic_frames.specs.Frames as logic
-use Rattle.ss_logic_frames.specs.Frames.{names_field, names_level, names_elements, all_named, field_kept, fields_kept}
+use Rattle.ss_logic.specs.Frames as logic
+use Rattle.ss_logic.specs.Frames.{names_field, names_level, names_elements, all_named, field_kept, fields_kept}
 use Rattle.ss_terms.specs.declared.forms.FormulaId.{FormulaId}
 use Rattle.ss_terms.specs.Forms.{Forms, IsGrown}
 use Rattle.ss_frames.specs.declared.calls.NamedTerm.{NamedTerm}

@@ -5,8 +5,8 @@ use Rattle.ss_core.specs.Tree.{ClassTree}
 use Rattle.ss_core.specs.Chain.{sub, DeclaredField, all_fields}
 use Rattle.ss_logic.specs.Terms.{Term}
 use Rattle.ss_logic.specs.Formulas.{Formula}
-use Rattle.ss_logic_frames.specs.Frames as logic
-use Rattle.ss_logic_frames.specs.Frames.{NamesField, NamesAll, NamesUpto, NamesElements, OwnerTerm, in_group_of, owned_by, is_named, names_field, names_level, names_elements}
+use Rattle.ss_logic.specs.Frames as logic
+use Rattle.ss_logic.specs.Frames.{NamesField, NamesAll, NamesUpto, NamesElements, OwnerTerm, in_group_of, owned_by, is_named, names_field, names_level, names_elements}
 use Rattle.ss_terms.specs.declared.forms.TermId.{TermId}
 use Rattle.ss_terms.specs.declared.forms.FormulaId.{FormulaId}
 use Rattle.ss_terms.specs.Forms.{Forms, term_at, terms_at, formula_at, formulas_at, HasTerm, HasTerms, HasFormula, HasFormulas}

@@ -3,15 +3,15 @@
 ghost use Rattle.std.specs.Prelude.{◌≡◌, ◌<◌, ◌++◌, length, [], ◌∷◌, map, IfOk};
 ghost use Rattle.ss_core.specs.declared.names.ClassId.{ClassId};
 ghost use Rattle.ss_logic.specs.Formulas.{neg};
-ghost use Rattle.ss_logic_rules.specs.Shapes.{equal, allocated, committed};
-ghost use Rattle.ss_logic_frames.specs.Frames.{the_object, is_free, is_outside};
+ghost use Rattle.ss_logic.specs.Shapes.{equal, allocated, committed};
+ghost use Rattle.ss_logic.specs.Frames.{the_object, is_free, is_outside};
 ghost use Rattle.ss_terms.specs.Forms.{term_at, terms_at, HasTerm, HasTerms, IsGrown};
 ghost use Rattle.ss_frames.specs.Calls.{call_at, HasOwned, HasCall, IsTerm, IsMade, AreMade, group_at, owned_at};
 
 use crate::calls::CallTerms;
 use crate::parts::joined;
 use ss_core::ClassId;
-use ss_rules_plans::{Claim, Clause, Plan, Slot, fill};
+use ss_rules_basic::{Claim, Clause, Plan, Slot, fill};
 use ss_terms::{Bank, FormulaId, Predicate, Symbol, TermId};
 use std::alloc::{AllocError, Global};
 

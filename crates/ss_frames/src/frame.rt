@@ -5,10 +5,10 @@ ghost use Rattle.ss_core.specs.Chain.{most_classes, IsWithinLimits};
 ghost use Rattle.ss_core.specs.View as view;
 ghost use Rattle.ss_logic.specs.Values.{Structure};
 ghost use Rattle.ss_logic.specs.Formulas.{neg, True};
-ghost use Rattle.ss_logic_rules.specs.Shapes.{allocated};
-ghost use Rattle.ss_logic_frames.specs.Frames.{and_of, the_object, the_index, is_free, is_outside, objects_kept, elements_kept, others_full, kept};
-ghost use Rattle.ss_logic_frames.specs.Means.{IsKept};
-ghost use Rattle.ss_logic_frames.specs.Sorted.{AreSorted};
+ghost use Rattle.ss_logic.specs.Shapes.{allocated};
+ghost use Rattle.ss_logic.specs.Frames.{and_of, the_object, the_index, is_free, is_outside, objects_kept, elements_kept, others_full, kept};
+ghost use Rattle.ss_logic.specs.FrameMeans.{IsKept};
+ghost use Rattle.ss_logic.specs.Sorted.{AreSorted};
 ghost use Rattle.ss_terms.specs.Forms.{term_at, formula_at, HasFormula, IsGrown, IsBankOf};
 ghost use Rattle.ss_frames.specs.Calls.{call_at, HasCall, IsTerm, IsMade, AreMade, AreNamed};
 

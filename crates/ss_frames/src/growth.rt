@@ -6,15 +6,15 @@ ghost use Rattle.ss_logic.specs.declared.Sort.TheVariants as sort;
 ghost use Rattle.ss_logic.specs.Values.{Structure};
 ghost use Rattle.ss_logic.specs.Terms.{have_sorts};
 ghost use Rattle.ss_logic.specs.Formulas.{True};
-ghost use Rattle.ss_logic_frames.specs.Frames.{the_object, object_grown, grown};
-ghost use Rattle.ss_logic_frames.specs.Means.{store_of};
-ghost use Rattle.ss_logic_frames.specs.Means as means;
+ghost use Rattle.ss_logic.specs.Frames.{the_object, object_grown, grown};
+ghost use Rattle.ss_logic.specs.FrameMeans.{store_of};
+ghost use Rattle.ss_logic.specs.FrameMeans as means;
 ghost use Rattle.ss_terms.specs.Forms.{term_at, formula_at, HasTerm, HasFormula, IsGrown};
 ghost use Rattle.ss_frames.specs.Calls.{IsTerm, IsMade};
 
 use crate::parts::unless;
 use ss_logic::Sort;
-use ss_rules_plans::{Claim, Clause, Plan, Slot, fill};
+use ss_rules_basic::{Claim, Clause, Plan, Slot, fill};
 use ss_terms::{Bank, FormulaId, Predicate, Symbol, Term, TermId};
 use std::alloc::{AllocError, Global};
 

@@ -6,10 +6,10 @@ ghost use Rattle.ss_logic.specs.declared.Sort.TheVariants as sort;
 ghost use Rattle.ss_logic.specs.Values.{Structure};
 ghost use Rattle.ss_logic.specs.Terms.{Term, have_sorts};
 ghost use Rattle.ss_logic.specs.Formulas.{True};
-ghost use Rattle.ss_logic_frames.specs.Frames.{CallTerms, kept, grown};
-ghost use Rattle.ss_logic_frames.specs.Means.{IsKept, store_of};
-ghost use Rattle.ss_logic_frames.specs.Means as means;
-ghost use Rattle.ss_logic_frames.specs.Sorted.{AreSorted};
+ghost use Rattle.ss_logic.specs.Frames.{CallTerms, kept, grown};
+ghost use Rattle.ss_logic.specs.FrameMeans.{IsKept, store_of};
+ghost use Rattle.ss_logic.specs.FrameMeans as means;
+ghost use Rattle.ss_logic.specs.Sorted.{AreSorted};
 ghost use Rattle.ss_terms.specs.declared.forms.FormulaId.{FormulaId};
 ghost use Rattle.ss_terms.specs.Forms.{Forms, formula_at};
 

@@ -2,14 +2,14 @@
 
 ghost use Rattle.std.specs.Prelude.{◌≡◌, ◌++◌, [], ◌∷◌, if◌then◌else◌, IfOk, OnOk};
 ghost use Rattle.ss_core.specs.View as view;
-ghost use Rattle.ss_logic_frames.specs.Frames.{the_object};
+ghost use Rattle.ss_logic.specs.Frames.{the_object};
 ghost use Rattle.ss_terms.specs.Forms.{IsGrown, IsBankOf};
 ghost use Rattle.ss_frames.specs.Calls.{guard_of, object_of, HasNamed, HasCall, IsTerm, IsMade, is_named_at, AreNamed, names_part, picked};
 
 use crate::calls::{CallTerms, NamedTerm};
 use ss_core::{ClassId, Classes};
 use ss_terms::{Bank, FormulaId, TermId};
-use ss_terms_lifts::lift;
+use ss_terms_puts::lift;
 use std::alloc::{AllocError, Global};
 
 /// A named term, and the formula that the object is the one that it names.

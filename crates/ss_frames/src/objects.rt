@@ -4,7 +4,7 @@ ghost use Rattle.std.specs.Prelude.{◌≡◌, ◌≤◌, length, IfOk};
 ghost use Rattle.ss_core.specs.Chain.{most_classes, all_fields};
 ghost use Rattle.ss_core.specs.View as view;
 ghost use Rattle.ss_store_rules.specs.Changes.{field_class};
-ghost use Rattle.ss_logic_frames.specs.Frames.{the_object, is_outside, field_kept, fields_kept, level_kept, object_kept};
+ghost use Rattle.ss_logic.specs.Frames.{the_object, is_outside, field_kept, fields_kept, level_kept, object_kept};
 ghost use Rattle.ss_terms.specs.Forms.{IsGrown};
 ghost use Rattle.ss_frames.specs.Calls.{call_at, HasCall, IsTerm, IsMade, AreMade, AreNamed};
 

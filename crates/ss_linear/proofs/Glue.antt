@@ -10,9 +10,9 @@ use Rattle.ss_core.specs.Tree.{ClassTree}
 use Rattle.ss_logic.specs.Terms.{Term}
 use Rattle.ss_logic.specs.Formulas.{Formula}
 use Rattle.ss_logic.specs.Equal.{same_term}
-use Rattle.ss_logic_sums.specs.Sums as sums
-use Rattle.ss_logic_sums.specs.Sums.{is_zero, sum_fact_of}
-use Rattle.ss_logic_sums.proofs.Numbers.{zero_is}
+use Rattle.ss_logic.specs.Sums as sums
+use Rattle.ss_logic.specs.Sums.{is_zero, sum_fact_of}
+use Rattle.ss_logic.proofs.NumbersInSums.{zero_is}
 use Rattle.ss_terms.specs.declared.forms.FormulaId.{FormulaId}
 use Rattle.ss_terms.specs.declared.forms.TermId.{TermId}
 use Rattle.ss_terms.specs.Forms.{Forms, term_at, formula_at, formulas_at, HasTerm, HasFormula, HasFormulas, AreBelow}

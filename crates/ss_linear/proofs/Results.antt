@@ -10,9 +10,9 @@ use Rattle.ss_core.specs.Tree.{ClassTree}
 use Rattle.ss_logic.specs.Terms.{Add, Term, app}
 use Rattle.ss_logic.specs.Formulas.{Formula}
 use Rattle.ss_logic.specs.Equal.{same_term, equal_terms}
-use Rattle.ss_logic_rules.specs.Shapes.{when, number, at_most}
-use Rattle.ss_logic_sums.specs.Sums.{is_within, is_zero, checked, plus_times, LinearSum, number_sum, term_sum, add_part, add_parts, sum_times, linear, SumFact, sum_fact, sum_fact_of, weighted, divided, multiple, sum_onto, sum_term, bounded, sum_of}
-use Rattle.ss_logic_sums.proofs.Numbers.{one_times, times_zero, zero_sum}
+use Rattle.ss_logic.specs.Shapes.{when, number, at_most}
+use Rattle.ss_logic.specs.Sums.{is_within, is_zero, checked, plus_times, LinearSum, number_sum, term_sum, add_part, add_parts, sum_times, linear, SumFact, sum_fact, sum_fact_of, weighted, divided, multiple, sum_onto, sum_term, bounded, sum_of}
+use Rattle.ss_logic.proofs.NumbersInSums.{one_times, times_zero, zero_sum}
 use Rattle.ss_terms.specs.declared.forms.TermId.{TermId}
 use Rattle.ss_terms.specs.Forms.{Forms, term_at}
 use Rattle.ss_deriv.specs.declared.line.Sum.{Sum as Told}

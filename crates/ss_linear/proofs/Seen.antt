@@ -7,8 +7,8 @@ use Rattle.ss_core.specs.Tree.{ClassTree}
 use Rattle.ss_logic.specs.declared.Sort.TheVariants as sort
 use Rattle.ss_logic.specs.Terms.{Term, same_sort, sort_of}
 use Rattle.ss_logic.specs.Formulas.{Formula}
-use Rattle.ss_logic_rules.specs.Shapes.{equal}
-use Rattle.ss_logic_sums.specs.Sums.{LinearSum, SumFact, add_times, sum_times, linear, difference, sum_fact, sum_fact_of}
+use Rattle.ss_logic.specs.Shapes.{equal}
+use Rattle.ss_logic.specs.Sums.{LinearSum, SumFact, add_times, sum_times, linear, difference, sum_fact, sum_fact_of}
 use Rattle.ss_linear_rules.specs.Two.{fact_at, Two}
 use Rattle.ss_linear_rules.specs.Valued.{sum_at, IsMetBy, IsMetAt}
 use Rattle.ss_linear_rules.proofs.Values.{some_is, add_times_value}

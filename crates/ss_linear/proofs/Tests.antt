@@ -7,7 +7,7 @@ use Rattle.std.specs.declared.alloc.Global.{Global}
 use Rattle.ss_core.specs.Tree.{ClassTree}
 use Rattle.ss_logic.specs.Terms.{Term}
 use Rattle.ss_logic.specs.Formulas.{Formula}
-use Rattle.ss_logic_sums.specs.Sums.{is_zero, LinearSum, SumFact, number_sum, weighted}
+use Rattle.ss_logic.specs.Sums.{is_zero, LinearSum, SumFact, number_sum, weighted}
 use Rattle.ss_linear_rules.specs.Two.{fact_at, IsUnit, Two, Refute}
 use Rattle.ss_linear_rules.specs.Few.{IsNone, AreZero}
 use Rattle.ss_linear_rules.specs.Valued.{sum_at, IsMetBy, IsMetAt, MeetsDifferences}

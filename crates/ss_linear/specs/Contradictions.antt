@@ -5,8 +5,8 @@ use Rattle.std.specs.List.{All, AllByRecursion}
 use Rattle.ss_core.specs.Tree.{ClassTree}
 use Rattle.ss_logic.specs.Terms.{Term}
 use Rattle.ss_logic.specs.Formulas.{Formula}
-use Rattle.ss_logic_rules.specs.Shapes.{equal}
-use Rattle.ss_logic_sums.specs.Sums.{sum_of}
+use Rattle.ss_logic.specs.Shapes.{equal}
+use Rattle.ss_logic.specs.Sums.{sum_of}
 use Rattle.ss_terms.specs.declared.forms.TermId.{TermId}
 use Rattle.ss_terms.specs.Forms.{Forms, term_at, HasTerm}
 use Rattle.ss_linear_sums.specs.declared.forms.SumFact.{SumFact}

@@ -4,7 +4,7 @@ use Rattle.std.specs.List.{AllByRecursion}
 use Rattle.ss_core.specs.Tree.{ClassTree}
 use Rattle.ss_logic.specs.Terms.{Term}
 use Rattle.ss_logic.specs.Formulas.{Formula}
-use Rattle.ss_logic_sums.specs.Sums.{SumFact, sum_fact_of}
+use Rattle.ss_logic.specs.Sums.{SumFact, sum_fact_of}
 use Rattle.ss_linear_rules.specs.Valued.{sum_at, IsMetBy}
 
 -- what is said of a sum, if anything, is so at these numbers

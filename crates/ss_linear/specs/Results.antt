@@ -5,7 +5,7 @@ use Rattle.ss_core.specs.Tree.{ClassTree}
 use Rattle.ss_logic.specs.Terms.{Term}
 use Rattle.ss_logic.specs.Formulas.{Formula}
 use Rattle.ss_logic.specs.Equal.{same_term}
-use Rattle.ss_logic_sums.specs.Sums.{is_within, term_sum, linear, sum_fact_of}
+use Rattle.ss_logic.specs.Sums.{is_within, term_sum, linear, sum_fact_of}
 use Rattle.ss_terms.specs.Forms.{Forms}
 use Rattle.ss_linear_sums.specs.declared.forms.SumFact.{SumFact}
 use Rattle.ss_linear_sums.specs.Linear.{HasParts, fact_at, IsFactOf}

@@ -3,7 +3,7 @@
 ghost use Rattle.std.specs.Prelude.{pos, List, Option, option_and_then, IfOk, IfSome};
 ghost use Rattle.ss_core.specs.Tree.{ClassTree};
 ghost use Rattle.ss_logic.specs.Formulas.{Formula};
-ghost use Rattle.ss_logic_sums.specs.Sums as sums;
+ghost use Rattle.ss_logic.specs.Sums as sums;
 ghost use Rattle.ss_linear_sums.specs.Linear.{sum_at, HasParts, IsSumOf, IsFactOf, Became};
 ghost use Rattle.ss_linear_sums.specs.Weighted.{with_known};
 ghost use Rattle.ss_linear.specs.Contradictions.{HaveParts};

@@ -3,7 +3,7 @@
 ghost use Rattle.std.specs.Prelude.{◌≡◌, ◌+ℤ◌, List, [], ◌∷◌, ◌++◌, OnOk, IfOk, IfSome};
 ghost use Rattle.ss_core.specs.Tree.{ClassTree};
 ghost use Rattle.ss_logic.specs.Formulas.{Formula};
-ghost use Rattle.ss_logic_sums.specs.Sums as sums;
+ghost use Rattle.ss_logic.specs.Sums as sums;
 ghost use Rattle.ss_terms.specs.Forms.{Forms, term_at, formulas_at, HasTerm, HasFormulas, IsBankOf};
 ghost use Rattle.ss_linear_sums.specs.Linear as linear;
 ghost use Rattle.ss_linear_sums.specs.Linear.{HasParts};

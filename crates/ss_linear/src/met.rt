@@ -3,7 +3,7 @@
 ghost use Rattle.std.specs.Prelude.{◌≡◌, ℕ, ◌<◌, ◌≤◌, List, length, true, false, Option, IfOk, IfSome};
 ghost use Rattle.ss_core.specs.Tree.{ClassTree};
 ghost use Rattle.ss_logic.specs.Formulas.{Formula};
-ghost use Rattle.ss_logic_sums.specs.Sums as sums;
+ghost use Rattle.ss_logic.specs.Sums as sums;
 ghost use Rattle.ss_terms.specs.Forms.{HasFormulas, formulas_at, IsBankOf};
 ghost use Rattle.ss_linear_sums.specs.Linear.{HasParts, IsFactOf};
 ghost use Rattle.ss_linear_rules.specs.Two as two;

@@ -4,8 +4,8 @@ ghost use Rattle.std.specs.Prelude.{◌≡◌, pos, neg_ℤ, List, [], ◌∷◌
 ghost use Rattle.std.specs.Int.{int_div_euclid, int_rem_euclid, is_positive};
 ghost use Rattle.ss_core.specs.Tree.{ClassTree};
 ghost use Rattle.ss_logic.specs.Formulas.{Formula};
-ghost use Rattle.ss_logic_sums.specs.Sums as sums;
-ghost use Rattle.ss_logic_rules.specs.Shapes.{when};
+ghost use Rattle.ss_logic.specs.Sums as sums;
+ghost use Rattle.ss_logic.specs.Shapes.{when};
 ghost use Rattle.ss_terms.specs.Forms.{term_at, HasTerm};
 ghost use Rattle.ss_linear_sums.specs.Linear.{part_at, parts_at, sum_at, HasParts};
 ghost use Rattle.ss_linear_sums.specs.Parts.{with_coefficient};

@@ -13,8 +13,8 @@ use Rattle.ss_core.specs.Tree.{ClassTree}
 use Rattle.ss_logic.specs.Terms.{Term}
 use Rattle.ss_logic.specs.Formulas.{Formula}
 use Rattle.ss_logic.specs.Equal.{same_term, equal_terms}
-use Rattle.ss_logic_sums.specs.Sums.{SumFact, is_weight}
-use Rattle.ss_logic_sums.proofs.Numbers.{one_times}
+use Rattle.ss_logic.specs.Sums.{SumFact, is_weight}
+use Rattle.ss_logic.proofs.NumbersInSums.{one_times}
 use borrow.Author.Differences.{product_is}
 use Rattle.ss_terms.specs.declared.forms.TermId.{TermId}
 use Rattle.ss_terms.specs.Forms.{Forms, term_at, terms_at, HasTerm, HasTerms, AreTermsBelow}

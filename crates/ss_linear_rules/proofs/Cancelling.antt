@@ -10,10 +10,10 @@ use Rattle.ss_core.specs.Tree.{ClassTree}
 use Rattle.ss_logic.specs.Terms.{Term}
 use Rattle.ss_logic.specs.Formulas.{Formula}
 use Rattle.ss_logic.specs.Equal.{same_term, equal_terms, same_term_equal}
-use Rattle.ss_logic_rules.specs.Shapes.{when, number, at_most}
-use Rattle.ss_logic_rules.proofs.Options.{and_then_some, if_some}
-use Rattle.ss_logic_sums.specs.Sums.{is_within, checked, plus_times, is_zero, LinearSum, number_sum, add_part, add_parts, add_times, SumFact, is_weight, add_weighted, weighted, divided, sum_term, bounded, sum_of}
-use Rattle.ss_logic_sums.proofs.Numbers.{one_times, times_zero, zero_is, sum_zero}
+use Rattle.ss_logic.specs.Shapes.{when, number, at_most}
+use Rattle.ss_logic.proofs.Options.{and_then_some, if_some}
+use Rattle.ss_logic.specs.Sums.{is_within, checked, plus_times, is_zero, LinearSum, number_sum, add_part, add_parts, add_times, SumFact, is_weight, add_weighted, weighted, divided, sum_term, bounded, sum_of}
+use Rattle.ss_logic.proofs.NumbersInSums.{one_times, times_zero, zero_is, sum_zero}
 use Rattle.ss_linear_rules.specs.Two.{IsFalse, is_one, is_less_one, parts_left, are_opposite, is_difference, fact_at, IsUnit}
 use Rattle.ss_linear_rules.specs.Few.{one_at}
 use Rattle.ss_linear_rules.specs.Valued.{parts_at, sum_at, fact_value, total, IsUsed}

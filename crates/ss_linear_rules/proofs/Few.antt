@@ -7,10 +7,10 @@ use Rattle.std.proofs.lemmas.Int.{ints}
 use Rattle.ss_core.specs.Tree.{ClassTree}
 use Rattle.ss_logic.specs.Terms.{Term}
 use Rattle.ss_logic.specs.Formulas.{Formula}
-use Rattle.ss_logic_rules.specs.Shapes.{number, at_most}
-use Rattle.ss_logic_rules.proofs.Options.{and_then_some, if_some}
-use Rattle.ss_logic_sums.specs.Sums.{checked, is_zero, LinearSum, number_sum, SumFact, add_weighted, weighted, divided, sum_term, bounded, sum_of}
-use Rattle.ss_logic_sums.proofs.Numbers.{zero_is, product_sum, zero_sum}
+use Rattle.ss_logic.specs.Shapes.{number, at_most}
+use Rattle.ss_logic.proofs.Options.{and_then_some, if_some}
+use Rattle.ss_logic.specs.Sums.{checked, is_zero, LinearSum, number_sum, SumFact, add_weighted, weighted, divided, sum_term, bounded, sum_of}
+use Rattle.ss_logic.proofs.NumbersInSums.{zero_is, product_sum, zero_sum}
 use borrow.Author.Differences.{product_is}
 use Rattle.ss_linear_rules.specs.Two.{IsFalse, fact_at, IsUnit, Two}
 use Rattle.ss_linear_rules.specs.Few.{IsNone, AreZero, one_at}

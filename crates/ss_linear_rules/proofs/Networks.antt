@@ -8,10 +8,10 @@ use Rattle.ss_core.specs.Tree.{ClassTree}
 use Rattle.ss_logic.specs.Terms.{Term}
 use Rattle.ss_logic.specs.Formulas.{Formula}
 use Rattle.ss_logic.specs.Equal.{same_term, equal_terms, same_term_equal}
-use Rattle.ss_logic_rules.proofs.Numbers.{le_from}
-use Rattle.ss_logic_rules.proofs.Options.{and_then_some}
-use Rattle.ss_logic_sums.specs.Sums.{SumFact, sum_fact_of, sum_of}
-use Rattle.ss_logic_sums.proofs.Numbers.{one_times}
+use Rattle.ss_logic.proofs.Numbers.{le_from}
+use Rattle.ss_logic.proofs.Options.{and_then_some}
+use Rattle.ss_logic.specs.Sums.{SumFact, sum_fact_of, sum_of}
+use Rattle.ss_logic.proofs.NumbersInSums.{one_times}
 use Rattle.ss_linear_paths.specs.declared.edges.Edge.{Edge}
 use Rattle.ss_linear_paths.specs.Edges.{label, no_edge, edge_at, IsMet, weight_of, rise, IsCycle}
 use Rattle.ss_linear_rules.specs.Two.{IsFalse, fact_at}

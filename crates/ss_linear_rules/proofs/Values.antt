@@ -9,10 +9,10 @@ use Rattle.ss_core.specs.Tree.{ClassTree}
 use Rattle.ss_logic.specs.Terms.{Number, Add, Term, App, app}
 use Rattle.ss_logic.specs.Formulas.{Formula}
 use Rattle.ss_logic.specs.Equal.{same_term, equal_terms}
-use Rattle.ss_logic_rules.specs.Shapes.{number, at_most}
-use Rattle.ss_logic_rules.proofs.Options.{when_some, and_then_some, if_some}
-use Rattle.ss_logic_sums.specs.Sums.{is_within, checked, plus_times, is_zero, LinearSum, number_sum, add_part, add_parts, add_times, is_weight, add_weighted, weighted, divided, multiple, sum_onto, sum_term, bounded, sum_of}
-use Rattle.ss_logic_sums.proofs.Numbers.{product_assoc, product_sum, times_zero, coefficient_more, sum_zero, zero_sum, first_more, rest_more, regroup, onto, zero_is, zero_times, most_times, exact}
+use Rattle.ss_logic.specs.Shapes.{number, at_most}
+use Rattle.ss_logic.proofs.Options.{when_some, and_then_some, if_some}
+use Rattle.ss_logic.specs.Sums.{is_within, checked, plus_times, is_zero, LinearSum, number_sum, add_part, add_parts, add_times, is_weight, add_weighted, weighted, divided, multiple, sum_onto, sum_term, bounded, sum_of}
+use Rattle.ss_logic.proofs.NumbersInSums.{product_assoc, product_sum, times_zero, coefficient_more, sum_zero, zero_sum, first_more, rest_more, regroup, onto, zero_is, zero_times, most_times, exact}
 use Rattle.ss_linear_rules.specs.Two.{IsFalse, fact_at, is_difference, IsDifferenceAt}
 use Rattle.ss_linear_rules.specs.Valued.{parts_at, sum_at, IsMetBy, IsMetAt, MeetsDifferences}
 

@@ -4,7 +4,7 @@ use Rattle.ss_core.specs.Tree.{ClassTree}
 use Rattle.ss_logic.specs.Terms.{Term}
 use Rattle.ss_logic.specs.Formulas.{Formula}
 use Rattle.ss_logic.specs.Equal.{same_term}
-use Rattle.ss_logic_sums.specs.Sums.{is_zero, sum_of}
+use Rattle.ss_logic.specs.Sums.{is_zero, sum_of}
 use Rattle.ss_linear_rules.specs.Two.{IsFalse}
 
 -- the sum with these weights and the divisor 1 doesn't give what is false

@@ -5,7 +5,7 @@ use Rattle.ss_core.specs.Tree.{ClassTree}
 use Rattle.ss_logic.specs.Terms.{Term}
 use Rattle.ss_logic.specs.Formulas.{Formula}
 use Rattle.ss_logic.specs.Equal.{same_term}
-use Rattle.ss_logic_sums.specs.Sums.{SumFact}
+use Rattle.ss_logic.specs.Sums.{SumFact}
 use Rattle.ss_linear_paths.specs.declared.edges.Edge.{Edge}
 use Rattle.ss_linear_paths.specs.Edges.{label}
 use Rattle.ss_linear_rules.specs.Two.{fact_at, is_difference}

@@ -4,8 +4,8 @@ use Rattle.std.specs.List.{AllByRecursion}
 use Rattle.ss_core.specs.Tree.{ClassTree}
 use Rattle.ss_logic.specs.Terms.{Term}
 use Rattle.ss_logic.specs.Formulas.{Formula}
-use Rattle.ss_logic_rules.specs.Shapes.{number, at_most}
-use Rattle.ss_logic_sums.specs.Sums.{is_zero, SumFact, sum_fact_of, sum_of}
+use Rattle.ss_logic.specs.Shapes.{number, at_most}
+use Rattle.ss_logic.specs.Sums.{is_zero, SumFact, sum_fact_of, sum_of}
 
 -- 0 is at most a number below 0
 abbrev pub IsFalse : Formula → Type 0

@@ -3,7 +3,7 @@ use Rattle.std.specs.Prelude.{◌≡◌, ℕ, ℤ, pos, ◌+ℤ◌, ◌*ℤ◌, 
 use Rattle.ss_core.specs.Tree.{ClassTree}
 use Rattle.ss_logic.specs.Terms.{Term}
 use Rattle.ss_logic.specs.Formulas.{Formula}
-use Rattle.ss_logic_sums.specs.Sums.{LinearSum, SumFact, is_weight}
+use Rattle.ss_logic.specs.Sums.{LinearSum, SumFact, is_weight}
 use Rattle.ss_linear_rules.specs.Two.{fact_at, is_difference, IsUnit}
 
 abbrev pub parts_at : (Term → ℤ) → List (Term × ℤ) → ℤ

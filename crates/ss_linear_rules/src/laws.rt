@@ -5,7 +5,7 @@ ghost use Rattle.std.specs.List.{AllByRecursion};
 ghost use Rattle.ss_core.specs.Tree.{ClassTree};
 ghost use Rattle.ss_logic.specs.Terms.{Term};
 ghost use Rattle.ss_logic.specs.Formulas.{Formula};
-ghost use Rattle.ss_logic_sums.specs.Sums.{sum_of};
+ghost use Rattle.ss_logic.specs.Sums.{sum_of};
 ghost use Rattle.ss_linear_rules.specs.Two.{IsFalse, IsDifferenceAt};
 ghost use Rattle.ss_linear_rules.specs.Valued.{MeetsDifferences, IsUsed, total};
 

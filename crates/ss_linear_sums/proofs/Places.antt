@@ -4,8 +4,8 @@ use Rattle.std.specs.Prelude.{IfOk}
 use Rattle.std.proofs.lemmas.List.{drop_more, drop-map, take_all}
 use Rattle.ss_logic.specs.Terms.{Term}
 use Rattle.ss_logic.specs.Equal.{same_term}
-use Rattle.ss_logic_sums.specs.Sums as sums
-use Rattle.ss_logic_sums.specs.Sums.{plus_times}
+use Rattle.ss_logic.specs.Sums as sums
+use Rattle.ss_logic.specs.Sums.{plus_times}
 use Rattle.ss_terms.specs.declared.forms.TermId.{TermId}
 use Rattle.ss_terms.specs.Forms.{Forms, term_at, HasTerm, IsGrown}
 use Rattle.ss_terms.proofs.Grown.{HasTerm-grown}

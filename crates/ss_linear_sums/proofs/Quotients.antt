@@ -4,8 +4,8 @@ use Rattle.std.specs.Prelude.{if◌then◌else◌}
 use Rattle.std.specs.Int.{int_div_euclid, int_rem_euclid}
 use Rattle.std.proofs.lemmas.List.{map-append}
 use Rattle.ss_logic.specs.Terms.{Add, Term, app}
-use Rattle.ss_logic_rules.specs.Shapes.{number, at_most}
-use Rattle.ss_logic_sums.specs.Sums.{is_zero, checked, LinearSum, divided, multiple, sum_onto, sum_term, bounded}
+use Rattle.ss_logic.specs.Shapes.{number, at_most}
+use Rattle.ss_logic.specs.Sums.{is_zero, checked, LinearSum, divided, multiple, sum_onto, sum_term, bounded}
 use Rattle.ss_terms.specs.Forms.{Forms, term_at, formula_at, HasTerm, HasFormula, IsGrown, IsFormulaNumber}
 use Rattle.ss_terms.specs.declared.forms.FormulaId.{FormulaId}
 use Rattle.ss_linear_sums.specs.declared.forms.Part.{Part}

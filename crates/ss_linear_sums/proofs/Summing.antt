@@ -4,8 +4,8 @@ use Rattle.std.specs.Prelude.{slice_get}
 use Rattle.ss_core.specs.Tree.{ClassTree}
 use Rattle.ss_logic.specs.Terms.{Term, App, terms_from}
 use Rattle.ss_logic.specs.Formulas.{Literal}
-use Rattle.ss_logic_sums.specs.Sums as sums
-use Rattle.ss_logic_sums.specs.Sums.{linear, number_sum, term_sum, sum_times, product, difference, sum_fact, sum_fact_of}
+use Rattle.ss_logic.specs.Sums as sums
+use Rattle.ss_logic.specs.Sums.{linear, number_sum, term_sum, sum_times, product, difference, sum_fact, sum_fact_of}
 use Rattle.ss_terms.specs.declared.forms.TermId.{TermId}
 use Rattle.ss_terms.specs.declared.forms.FormulaId.{FormulaId}
 use Rattle.ss_terms.specs.declared.forms.Symbol.{Symbol}

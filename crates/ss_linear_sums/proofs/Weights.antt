@@ -5,8 +5,8 @@ use Rattle.std.proofs.lemmas.List.{drop_more}
 use Rattle.std.proofs.lemmas.Option.{slice_get-map}
 use Rattle.ss_core.specs.Tree.{ClassTree}
 use Rattle.ss_logic.specs.Formulas.{Formula}
-use Rattle.ss_logic_sums.specs.Sums as sums
-use Rattle.ss_logic_sums.specs.Sums.{sum_fact_of, is_weight, add_times, add_weighted, weighted}
+use Rattle.ss_logic.specs.Sums as sums
+use Rattle.ss_logic.specs.Sums.{sum_fact_of, is_weight, add_times, add_weighted, weighted}
 use Rattle.ss_terms.specs.declared.forms.FormulaId.{FormulaId}
 use Rattle.ss_terms.specs.Forms.{Forms, formula_at, formulas_at}
 use Rattle.ss_linear_sums.specs.Weighted.{with_known}

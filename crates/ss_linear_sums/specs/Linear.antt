@@ -1,7 +1,7 @@
 -- The sums that those over numbers of a bank stand for.
 use Rattle.std.specs.Prelude.{◌≡◌, ℤ, List, [], ◌∷◌, map, Bool, true, false, Option, Some, None}
 use Rattle.ss_logic.specs.Terms.{Term}
-use Rattle.ss_logic_sums.specs.Sums as sums
+use Rattle.ss_logic.specs.Sums as sums
 use Rattle.ss_terms.specs.Forms.{Forms, term_at, HasTerm}
 use Rattle.ss_linear_sums.specs.declared.forms.Part.{Part}
 use Rattle.ss_linear_sums.specs.declared.forms.LinearSum.{LinearSum}

@@ -1,7 +1,7 @@
 -- Where a term stands among parts.
 use Rattle.std.specs.Prelude.{◌≡◌, ℕ, ℤ, pos, ◌<◌, List, [], ◌∷◌, ◌++◌, length, take, set, get_or, Bool, true, false, Option, Some, None}
 use Rattle.ss_logic.specs.Equal.{same_term}
-use Rattle.ss_logic_sums.specs.Sums.{plus_times}
+use Rattle.ss_logic.specs.Sums.{plus_times}
 use Rattle.ss_terms.specs.declared.forms.TermId.{TermId}
 use Rattle.ss_terms.specs.Forms.{Forms, term_at}
 use Rattle.ss_linear_sums.specs.declared.forms.Part.{Part}

@@ -3,7 +3,7 @@ use Rattle.std.specs.Prelude.{◌≡◌, pos, ◌<◌, List, Bool, true, false, 
 use Rattle.ss_core.specs.Tree.{ClassTree}
 use Rattle.ss_logic.specs.Terms.{Term}
 use Rattle.ss_logic.specs.Formulas as logic
-use Rattle.ss_logic_sums.specs.Sums.{number_sum, term_sum, sum_times, linear, difference, sum_fact, sum_fact_of, SumFact}
+use Rattle.ss_logic.specs.Sums.{number_sum, term_sum, sum_times, linear, difference, sum_fact, sum_fact_of, SumFact}
 use Rattle.ss_terms.specs.declared.forms.TermId.{TermId}
 use Rattle.ss_terms.specs.declared.forms.Symbol.{Symbol}
 use Rattle.ss_terms.specs.declared.forms.Symbol.TheVariants as symbol

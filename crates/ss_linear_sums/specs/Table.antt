@@ -1,6 +1,6 @@
 -- Sums of terms that were made before.
 use Rattle.std.specs.Prelude.{◌≡◌, List, [], ◌∷◌, Some}
-use Rattle.ss_logic_sums.specs.Sums.{linear}
+use Rattle.ss_logic.specs.Sums.{linear}
 use Rattle.ss_terms.specs.Forms.{Forms, term_at}
 use Rattle.ss_linear_sums.specs.declared.table.KeptSum.{KeptSum}
 use Rattle.ss_linear_sums.specs.Linear.{sum_at, HasParts}

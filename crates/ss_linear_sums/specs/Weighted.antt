@@ -4,8 +4,8 @@ use Rattle.std.specs.Int.{int_div_euclid, int_rem_euclid}
 use Rattle.ss_core.specs.Tree.{ClassTree}
 use Rattle.ss_logic.specs.Formulas.{Formula}
 use Rattle.ss_logic.specs.Terms.{Term}
-use Rattle.ss_logic_sums.specs.Sums as sums
-use Rattle.ss_logic_sums.specs.Sums.{is_zero, sum_fact_of, add_weighted}
+use Rattle.ss_logic.specs.Sums as sums
+use Rattle.ss_logic.specs.Sums.{is_zero, sum_fact_of, add_weighted}
 use Rattle.ss_terms.specs.Forms.{Forms}
 use Rattle.ss_linear_sums.specs.declared.forms.Part.{Part}
 use Rattle.ss_linear_sums.specs.Linear.{parts_at, HasParts}

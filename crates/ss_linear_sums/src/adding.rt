@@ -2,7 +2,7 @@
 
 ghost use Rattle.std.specs.Prelude.{◌≡◌, pos, List, slice_get, IfOk, IfSome};
 ghost use Rattle.ss_core.specs.Tree.{ClassTree};
-ghost use Rattle.ss_logic_sums.specs.Sums as sums;
+ghost use Rattle.ss_logic.specs.Sums as sums;
 ghost use Rattle.ss_terms.specs.Forms.{formulas_at, HasFormulas, IsBankOf};
 ghost use Rattle.ss_linear_sums.specs.Linear.{sum_at, fact_at, HasParts, IsSumOf, Became};
 ghost use Rattle.ss_linear_sums.specs.Table.{AreKept};

@@ -4,9 +4,9 @@ ghost use Rattle.std.specs.Prelude.{◌≡◌, List, [], ◌∷◌, true, option
 ghost use Rattle.std.specs.Int.{int_div_euclid, int_rem_euclid, is_positive};
 ghost use Rattle.ss_core.specs.Tree.{ClassTree};
 ghost use Rattle.ss_logic.specs.Terms.{Add, app};
-ghost use Rattle.ss_logic_rules.specs.Shapes as shapes;
-ghost use Rattle.ss_logic_rules.specs.Shapes.{when};
-ghost use Rattle.ss_logic_sums.specs.Sums as sums;
+ghost use Rattle.ss_logic.specs.Shapes as shapes;
+ghost use Rattle.ss_logic.specs.Shapes.{when};
+ghost use Rattle.ss_logic.specs.Sums as sums;
 ghost use Rattle.ss_terms.specs.Forms.{term_at, formula_at, formulas_at, HasTerm, HasFormula, HasFormulas, IsGrown, IsBankOf, IsFormulaNumber};
 ghost use Rattle.ss_linear_sums.specs.Linear.{part_at, parts_at, sum_at, HasParts};
 ghost use Rattle.ss_linear_sums.specs.Weighted.{divided_part, IsDividedOnto, AreDivided};

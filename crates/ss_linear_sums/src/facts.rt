@@ -4,8 +4,8 @@ ghost use Rattle.std.specs.Prelude.{◌≡◌, pos, List, [], ◌∷◌, length,
 ghost use Rattle.ss_core.specs.Tree.{ClassTree};
 ghost use Rattle.ss_logic.specs.Terms.{terms_from};
 ghost use Rattle.ss_logic.specs.Formulas as logic;
-ghost use Rattle.ss_logic_rules.specs.Shapes.{equal};
-ghost use Rattle.ss_logic_sums.specs.Sums as sums;
+ghost use Rattle.ss_logic.specs.Shapes.{equal};
+ghost use Rattle.ss_logic.specs.Sums as sums;
 ghost use Rattle.ss_terms.specs.Forms.{Forms, predicate_of, term_at, terms_at, formula_at, HasTerm, HasTerms, HasFormula, IsBankOf};
 ghost use Rattle.ss_linear_sums.specs.Linear.{HasParts, IsSumOf, IsFactOf};
 ghost use Rattle.ss_linear_sums.specs.Table.{AreKept};

@@ -1,7 +1,7 @@
 // Linear sums over the numbers of a bank.
 
 ghost use Rattle.std.specs.Prelude.{◌≡◌, pos, [], ◌∷◌, IfOk};
-ghost use Rattle.ss_logic_sums.specs.Sums.{number_sum, term_sum};
+ghost use Rattle.ss_logic.specs.Sums.{number_sum, term_sum};
 ghost use Rattle.ss_terms.specs.Forms.{Forms, term_at, HasTerm};
 ghost use Rattle.ss_linear_sums.specs.Linear.{sum_at, HasParts};
 

@@ -1,7 +1,7 @@
 // Numbers of 128 bits.
 
 ghost use Rattle.std.specs.Prelude.{◌≡◌, ◌+ℤ◌, ◌*ℤ◌, neg_ℤ};
-ghost use Rattle.ss_logic_sums.specs.Sums.{checked, plus_times, is_zero, is_weight};
+ghost use Rattle.ss_logic.specs.Sums.{checked, plus_times, is_zero, is_weight};
 
 fn added(a: i128, b: i128) -> Option<i128>
     ensures { result ≡ checked (a +ℤ b) }

@@ -1,7 +1,7 @@
 // Sums of sums.
 
 ghost use Rattle.std.specs.Prelude.{◌≡◌, ◌<◌, length, true, false, IfOk};
-ghost use Rattle.ss_logic_sums.specs.Sums as sums;
+ghost use Rattle.ss_logic.specs.Sums as sums;
 ghost use Rattle.ss_terms.specs.Forms.{HasTerm};
 ghost use Rattle.ss_linear_sums.specs.Linear.{part_at, parts_at, sum_at, HasParts, Became};
 ghost use Rattle.ss_linear_sums.specs.Parts.{IsPlaceOf, IsRaised, IsPushed};

@@ -3,7 +3,7 @@
 ghost use Rattle.std.specs.Prelude.{◌≡◌, ◌<◌, pos, [], ◌∷◌, length, Some, IfOk};
 ghost use Rattle.ss_logic.specs.Terms as tree;
 ghost use Rattle.ss_logic.specs.Terms.{App, terms_from};
-ghost use Rattle.ss_logic_sums.specs.Sums as sums;
+ghost use Rattle.ss_logic.specs.Sums as sums;
 ghost use Rattle.ss_terms.specs.Forms.{symbol_of, term_at, terms_at, HasTerm, AreTermsBelow};
 ghost use Rattle.ss_linear_sums.specs.Linear.{sum_at, HasParts, IsSumOf};
 ghost use Rattle.ss_linear_sums.specs.Table.{AreKept};

@@ -1,7 +1,7 @@
 // Sums that terms are, kept where a term comes again.
 
 ghost use Rattle.std.specs.Prelude.{◌≡◌, [], Some, true, IfOk, IfSome};
-ghost use Rattle.ss_logic_sums.specs.Sums.{linear};
+ghost use Rattle.ss_logic.specs.Sums.{linear};
 ghost use Rattle.ss_terms.specs.Forms.{term_at};
 ghost use Rattle.ss_linear_sums.specs.Linear.{sum_at, HasParts};
 ghost use Rattle.ss_linear_sums.specs.Table.{IsKept, AreKept};

@@ -6,3 +6,16 @@ pub mod Tabled
 pub mod Changing
 pub mod Writing
 pub mod Elements
+pub mod Options
+pub mod Sentences
+pub mod Looking
+pub mod Numbers
+pub mod Ruling
+pub mod Stores
+pub mod Goods
+pub mod NumbersInSums
+pub mod Summed
+pub mod Lifting
+pub mod Kept
+pub mod Lists
+pub mod Occurring

@@ -7,11 +7,11 @@ use Rattle.ss_logic.specs.declared.Sort.TheVariants as sort
 use Rattle.ss_logic.specs.Terms.{Term, App, Terms, no_terms, term_then, term_list, same_sort, sort_of}
 use Rattle.ss_logic.specs.Formulas.{Equal, Formula, Formulas, Literal, And, Or, Forall, Exists, no_formulas, formula_then, neg}
 use Rattle.ss_logic.specs.Equal.{same_term, same_symbol, same_predicate, same_formula}
-use Rattle.ss_logic_rules.specs.Shapes.{equal}
-use Rattle.ss_logic_derivations.specs.Steps.{is_value}
+use Rattle.ss_logic.specs.Shapes.{equal}
+use Rattle.ss_logic_means.specs.Steps.{is_value}
 use Rattle.ss_linear_rules.specs.Two.{Two}
-use Rattle.ss_logic_ground.specs.Occurring.{terms, with_formulas}
-use Rattle.ss_logic_ground.specs.Ground.{ground_form}
+use Rattle.ss_logic.specs.Occurring.{terms, with_formulas}
+use Rattle.ss_logic.specs.Ground.{ground_form}
 use Rattle.ss_logic_countermodels.specs.declared.Countermodel.{Countermodel}
 use Rattle.ss_core.specs.Tree.{ClassTree}
 

@@ -19,8 +19,8 @@ use Rattle.ss_logic.specs.Values.{Value, whole, truth, as_whole, Structure}
 use Rattle.ss_logic.specs.Terms.{Term, app}
 use Rattle.ss_logic.specs.Terms as term
 use Rattle.ss_logic.specs.Formulas.{Formula, neg}
-use Rattle.ss_logic_rules.specs.Shapes.{number, equal, differ, at_most}
-use Rattle.ss_logic_express.specs.Express.{Meant, One, Either, Says, over, over_two, paired, mapped, said, same_truths, equal_meant, less, fits_int, not_zero}
+use Rattle.ss_logic.specs.Shapes.{number, equal, differ, at_most}
+use Rattle.ss_logic.specs.Express.{Meant, One, Either, Says, over, over_two, paired, mapped, said, same_truths, equal_meant, less, fits_int, not_zero}
 use Rattle.ss_logic_means.specs.Means.{standing}
 use Rattle.ss_logic_means.proofs.Denoting.{V, M, D, R, neg_means, iff_means, says_denotes, over_means, over_two_means, said_means, mapped_denotes, paired_denotes, reads_append, reads_then, reads_map}
 use Rattle.ss_logic_means.proofs.Operations.{IsBool, IsWhole, Gives, bool_standing, same_bool, equal_means, at_most_means, less_means, fits_means, whole_denotes}

@@ -19,8 +19,8 @@ use Rattle.ss_logic.specs.Terms.{Term, Bound, app}
 use Rattle.ss_logic.specs.Terms as term
 use Rattle.ss_logic.specs.Formulas.{Formula, Forall, neg}
 use Rattle.ss_logic.specs.Objects.{objects_of}
-use Rattle.ss_logic_rules.specs.Shapes.{number, class_term, level_of, owner_of, pair_of, equal, at_most, sub_atom, committed, group}
-use Rattle.ss_logic_express.specs.Express.{and_of, or_of, Meant, Says, over, over_two, said, Context, is_full, word_said, owners_said, word_parts, readable, out_of_range, quantified_said}
+use Rattle.ss_logic.specs.Shapes.{number, class_term, level_of, owner_of, pair_of, equal, at_most, sub_atom, committed, group}
+use Rattle.ss_logic.specs.Express.{and_of, or_of, Meant, Says, over, over_two, said, Context, is_full, word_said, owners_said, word_parts, readable, out_of_range, quantified_said}
 use Rattle.ss_logic_means.specs.Means.{standing}
 use Rattle.ss_logic_means.specs.Scenes.{setting_of}
 use Rattle.ss_logic_means.proofs.Denoting.{V, M, D, R, neg_means, over_means}

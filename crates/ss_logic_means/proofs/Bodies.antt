@@ -17,7 +17,7 @@ use Rattle.ss_logic.specs.Values.{Heap, Table, IsNumbered, Value, whole, truth, 
 use Rattle.ss_logic.specs.Terms.{Term, sort_of_type, same_sort, have_sorts, constant_value}
 use Rattle.ss_logic.specs.Formulas.{is_well_formed, AreOf}
 use Rattle.ss_logic.proofs.Truth.{same_sort_refl}
-use Rattle.ss_logic_express.specs.Express.{choices, Context, local_meant, subject, holds_formula}
+use Rattle.ss_logic.specs.Express.{choices, Context, local_meant, subject, holds_formula}
 use Rattle.ss_machine_typed.specs.Settings.{IsGoodSetting}
 use Rattle.ss_logic_means.specs.Means.{standing, Means}
 use Rattle.ss_logic_means.specs.Scenes.{setting_of, HaveValues, IsStoreTerm, Stands, Stay, is_stated, Settled}

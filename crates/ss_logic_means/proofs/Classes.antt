@@ -16,9 +16,9 @@ use Rattle.ss_logic.specs.Formulas.{Formula, neg}
 use Rattle.ss_logic.specs.Objects.{object_in, objects_of}
 use Rattle.ss_logic.proofs.Tabled.{there}
 use Rattle.ss_logic.proofs.Truth.{neg_true, not_both}
-use Rattle.ss_logic_rules.specs.Shapes.{null_term, class_term, equal, differ, sub_atom}
-use Rattle.ss_logic_rules.specs.Shapes as shape
-use Rattle.ss_logic_express.specs.Express.{Choice, Meant, Either, Says, choices, over, is_of, as_class, not_null}
+use Rattle.ss_logic.specs.Shapes.{null_term, class_term, equal, differ, sub_atom}
+use Rattle.ss_logic.specs.Shapes as shape
+use Rattle.ss_logic.specs.Express.{Choice, Meant, Either, Says, choices, over, is_of, as_class, not_null}
 use Rattle.ss_logic_means.specs.Means.{standing, Agree, NoneOf}
 use Rattle.ss_logic_means.proofs.Denoting.{T, V, M, D, R, and_means, neg_means, says_denotes, over_means, reads_map}
 use Rattle.ss_logic_means.proofs.Operations.{Gives, equal_means}

@@ -6,7 +6,7 @@ use Rattle.ss_store_rules.specs.declared.Value.{Value as ObjectValue}
 use Rattle.ss_logic.specs.Values.{Heap, Value, Structure}
 use Rattle.ss_logic.specs.Terms.{Term}
 use Rattle.ss_logic.proofs.Truth.{closed_value}
-use Rattle.ss_logic_express.specs.Express.{One, Context, choices, meant_or_null, local_meant}
+use Rattle.ss_logic.specs.Express.{One, Context, choices, meant_or_null, local_meant}
 use Rattle.ss_logic_means.specs.Means.{standing}
 use Rattle.ss_logic_means.specs.Scenes.{HaveValues, IsStoreTerm, Stands, Stay}
 use Rattle.ss_logic_means.proofs.Denoting.{D, one_denotes}

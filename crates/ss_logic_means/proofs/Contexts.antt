@@ -11,9 +11,9 @@ use Rattle.ss_logic.specs.declared.Sort.{Sort}
 use Rattle.ss_logic.specs.declared.Sort.TheVariants as sort
 use Rattle.ss_logic.specs.Terms.{TypeOf, Level, Owner, Pair, Term, Bound, sort_of_type}
 use Rattle.ss_logic.specs.Formulas.{Sub, Allocated, Committed, IsGroup, neg}
-use Rattle.ss_logic_rules.specs.Shapes.{class_term, level_of, owner_of, pair_of, equal, sub_atom, allocated, committed, group}
-use Rattle.ss_logic_rules.specs.Shapes as shape
-use Rattle.ss_logic_express.specs.Express.{and_of, Meant, One, choices, over, Context, state, at_entry, with_bound, meant_or_null, local_meant, element_sort, is_full, readable}
+use Rattle.ss_logic.specs.Shapes.{class_term, level_of, owner_of, pair_of, equal, sub_atom, allocated, committed, group}
+use Rattle.ss_logic.specs.Shapes as shape
+use Rattle.ss_logic.specs.Express.{and_of, Meant, One, choices, over, Context, state, at_entry, with_bound, meant_or_null, local_meant, element_sort, is_full, readable}
 use Rattle.ss_logic_means.specs.Sorts.{HasSort, AreWellFormed, HaveSort, IsSorted, IsSortedAmong}
 use Rattle.ss_logic_means.proofs.Standing.{get_old, get_at, get_either, get_found, length_more}
 use Rattle.ss_logic_means.proofs.Sorting.{sorted_one, sorted_two, formed_one, formed_two, equal_formed, sort_more}

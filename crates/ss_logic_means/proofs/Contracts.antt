@@ -13,7 +13,7 @@ use Rattle.ss_store_rules.specs.Types.{is_bool, is_reference, has_class, type_of
 use Rattle.ss_store_rules.specs.Typed.{is_reference_argument, is_default_of, is_contract}
 use Rattle.ss_store_rules.specs.Values as run
 use Rattle.ss_logic.specs.Values.{Heap, Value, Structure}
-use Rattle.ss_logic_express.specs.Express.{Context, default_said, holds_formula}
+use Rattle.ss_logic.specs.Express.{Context, default_said, holds_formula}
 use Rattle.ss_machine_typed.specs.Settings.{IsGoodSetting}
 use Rattle.ss_logic_means.specs.Means.{Means}
 use Rattle.ss_logic_means.specs.Scenes.{setting_of, Stands, StandsAmong, has_subject, has_no_default, speaks_of, speaks_only, is_stated, Settled}

@@ -12,8 +12,8 @@ use Rattle.ss_logic.specs.Terms.{Term, value_of}
 use Rattle.ss_logic.specs.Formulas.{Formula, Formulas, Literal, And, Or, Forall, Exists, no_formulas, formula_then, formula_list, True, AllTrue, NoneTrue, formulas_from, neg}
 use Rattle.ss_logic.proofs.Stable.{bool_stable}
 use Rattle.ss_logic.proofs.Truth.{not_both, neg_true, formula_stable}
-use Rattle.ss_logic_rules.specs.Shapes.{equal}
-use Rattle.ss_logic_express.specs.Express.{and_of, or_of, iff, and_more, or_more, truth_term, Choice, Meant, One, Either, Says, choice, choices, over, over_two, mapped, both, paired, said, under}
+use Rattle.ss_logic.specs.Shapes.{equal}
+use Rattle.ss_logic.specs.Express.{and_of, or_of, iff, and_more, or_more, truth_term, Choice, Meant, One, Either, Says, choice, choices, over, over_two, mapped, both, paired, said, under}
 use Rattle.ss_logic_means.specs.Means.{standing, Means, Agree, NoneOf, Denotes, Reads}
 
 module _ (cs : List ClassTree) (m : Structure) (e : List Value) where

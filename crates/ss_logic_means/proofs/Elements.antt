@@ -21,8 +21,8 @@ use Rattle.ss_logic.specs.Terms.{Term, app, sort_of_type, cell}
 use Rattle.ss_logic.specs.Terms as term
 use Rattle.ss_logic.specs.Formulas.{Formula}
 use Rattle.ss_logic.specs.Objects.{content, elements_from, element_count, object_in, objects_of}
-use Rattle.ss_logic_rules.specs.Shapes.{number, at_most}
-use Rattle.ss_logic_express.specs.Express.{and_of, Meant, paired, less, index_fits}
+use Rattle.ss_logic.specs.Shapes.{number, at_most}
+use Rattle.ss_logic.specs.Express.{and_of, Meant, paired, less, index_fits}
 use Rattle.ss_logic_means.specs.Means.{standing}
 use Rattle.ss_logic_means.proofs.Denoting.{V, M, D, R, and_means, over_two_means, paired_denotes}
 use Rattle.ss_logic_means.proofs.Operations.{IsWhole, Gives, at_most_means, less_means, whole_denotes}

@@ -17,9 +17,9 @@ use Rattle.ss_logic.specs.declared.Sort.TheVariants as sort
 use Rattle.ss_logic.specs.Terms.{Add, Subtract, Field, Element, Length, Term, Bound, app, sort_of_type, field_sort, has_field, is_store_sort, takes}
 use Rattle.ss_logic.specs.Formulas.{Formula, Forall, neg}
 use Rattle.ss_logic.proofs.Truth.{type_sort}
-use Rattle.ss_logic_rules.specs.Shapes.{number, null_term, class_term, level_of, owner_of, pair_of, equal, differ, at_most, sub_atom, allocated, committed, group}
-use Rattle.ss_logic_rules.specs.Shapes as shape
-use Rattle.ss_logic_express.specs.Express.{and_of, or_of, Choice, Meant, Says, choices, over, over_two, said, same_truths, Context, state, at_entry, with_bound, element_sort, is_of, fits_int, less, word_said, owners_said, as_class, out_of_range, quantified_said, meant, not_null, readable, under, index_fits, word_parts, defined}
+use Rattle.ss_logic.specs.Shapes.{number, null_term, class_term, level_of, owner_of, pair_of, equal, differ, at_most, sub_atom, allocated, committed, group}
+use Rattle.ss_logic.specs.Shapes as shape
+use Rattle.ss_logic.specs.Express.{and_of, or_of, Choice, Meant, Says, choices, over, over_two, said, same_truths, Context, state, at_entry, with_bound, element_sort, is_of, fits_int, less, word_said, owners_said, as_class, out_of_range, quantified_said, meant, not_null, readable, under, index_fits, word_parts, defined}
 use Rattle.ss_logic_means.specs.Sorts.{HasSort, AreWellFormed, HaveSort, IsWellExpressed, IsSortedAmong}
 use Rattle.ss_logic_means.proofs.Operands.{three_parts, where_some, where_bool, int_some, bool_some, reference_some, class_reference, int_or_bool, reference_or_bool, field_from, elements_from, element_reference, are_operands}
 use Rattle.ss_logic_means.proofs.Sorting.{sorted_one, sorted_two, sorted_three, equal_formed, all_formed, more_formed, each_formed}

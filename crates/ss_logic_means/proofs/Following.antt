@@ -6,8 +6,8 @@ use Rattle.ss_core.specs.Chain.{IsChain, NoAlso}
 use Rattle.ss_logic.specs.Values.{Structure}
 use Rattle.ss_logic.specs.Terms.{Term}
 use Rattle.ss_logic.specs.Formulas.{Good, Formula, True, Hold, IsValid, atom}
-use Rattle.ss_logic_rules.proofs.Goods.{good_instance_true}
-use Rattle.ss_logic_rules.proofs.Sentences.{Hold-append}
+use Rattle.ss_logic.proofs.Goods.{good_instance_true}
+use Rattle.ss_logic.proofs.Sentences.{Hold-append}
 use Rattle.ss_logic_means.specs.Scenes.{AreInvariants}
 use Rattle.ss_logic_means.specs.Sentences.{IsOfGood, Instance, OfInvariants, AllFollowFromGood}
 use Rattle.ss_logic_means.proofs.Invariants.{invariants_true}

@@ -7,7 +7,7 @@ use Rattle.ss_logic.specs.declared.Sort.{Sort}
 use Rattle.ss_logic.specs.declared.Sort.TheVariants as sort
 use Rattle.ss_logic.specs.Terms.{Term}
 use Rattle.ss_logic.specs.Formulas.{Formula, Formulas, Literal, And, Or, Forall, Exists, no_formulas, formula_then, formula_list, formulas_from, is_well_formed, are_well_formed, neg}
-use Rattle.ss_logic_express.specs.Express.{and_of, or_of, iff, and_more, or_more, truth_term, Choice, choice, Meant, One, Either, Says, choices, over, over_two, mapped, both, paired, said, same_truths, under}
+use Rattle.ss_logic.specs.Express.{and_of, or_of, iff, and_more, or_more, truth_term, Choice, choice, Meant, One, Either, Says, choices, over, over_two, mapped, both, paired, said, same_truths, under}
 use Rattle.ss_logic_means.specs.Sorts.{HasSort, AreWellFormed, HaveSort}
 use Rattle.ss_logic_means.proofs.Sorting.{equal_formed, all_formed, each_formed, neg_formed}
 

@@ -26,10 +26,10 @@ use Rattle.ss_logic.specs.Formulas.{Formula, Good, atom, True, AllTrue, formulas
 use Rattle.ss_logic.specs.Objects.{objects_of, IsGoodStore}
 use Rattle.ss_logic.proofs.Tabled.{there}
 use Rattle.ss_logic.proofs.Truth.{AreOf-values, closed_value, formula_stable}
-use Rattle.ss_logic_rules.specs.Shapes.{class_term, level_of, sub_atom, allocated, class_of_term}
-use Rattle.ss_logic_rules.proofs.Sentences.{given_true}
-use Rattle.ss_logic_express.specs.Express.{and_of, Meant, One, said, Context, local_meant, meant, defined, holds_formula}
-use Rattle.ss_logic_express.specs.Invariants.{invariant_context, invariants_said, packed_invariants, invariants_at, invariants_of}
+use Rattle.ss_logic.specs.Shapes.{class_term, level_of, sub_atom, allocated, class_of_term}
+use Rattle.ss_logic.proofs.Sentences.{given_true}
+use Rattle.ss_logic.specs.Express.{and_of, Meant, One, said, Context, local_meant, meant, defined, holds_formula}
+use Rattle.ss_logic.specs.Invariants.{invariant_context, invariants_said, packed_invariants, invariants_at, invariants_of}
 use Rattle.ss_machine_typed.specs.Settings.{IsGoodSetting}
 use Rattle.ss_machine_typed.proofs.Older.{older_self}
 use Rattle.ss_logic_means.specs.Means.{standing, Means}

@@ -12,8 +12,8 @@ use Rattle.ss_logic.specs.Formulas.{Formula, Forall, NoneTrue, formulas_from, ne
 use Rattle.ss_logic.specs.Objects.{object_in, objects_from, objects_of}
 use Rattle.ss_logic.proofs.Stable.{bool_stable}
 use Rattle.ss_logic.proofs.Tabled.{there}
-use Rattle.ss_logic_rules.specs.Shapes.{allocated}
-use Rattle.ss_logic_express.specs.Express.{and_of, or_of, Choice, Meant, One, Either, Says, choices, over}
+use Rattle.ss_logic.specs.Shapes.{allocated}
+use Rattle.ss_logic.specs.Express.{and_of, or_of, Choice, Meant, One, Either, Says, choices, over}
 use Rattle.ss_machine_typed.proofs.Slots.{all_at}
 use Rattle.ss_logic_means.specs.Means.{Agree, NoneOf}
 use Rattle.ss_logic_means.specs.Scenes.{Stay}

@@ -14,7 +14,7 @@ use Rattle.ss_store_rules.specs.Types.{is_int, is_bool, is_reference, has_class,
 use Rattle.ss_store_rules.specs.Values as run
 use Rattle.ss_logic.specs.Values.{Value, Structure}
 use Rattle.ss_logic.specs.Formulas.{Formula}
-use Rattle.ss_logic_express.specs.Express.{Meant, operated, operation_parts}
+use Rattle.ss_logic.specs.Express.{Meant, operated, operation_parts}
 use Rattle.ss_logic_means.proofs.Denoting.{R}
 use Rattle.ss_logic_means.proofs.Operations.{IsBool, IsWhole, Gives, and_reads, or_reads}
 use Rattle.ss_logic_means.proofs.Arithmetic.{AreBools, equal_reads, not_equal_reads, less_reads, less_equal_reads, greater_reads, greater_equal_reads, add_reads, subtract_reads, multiply_reads, divide_reads, remainder_reads}

@@ -12,8 +12,8 @@ use Rattle.ss_logic.specs.declared.Sort.{Sort}
 use Rattle.ss_logic.specs.declared.Sort.TheVariants as sort
 use Rattle.ss_logic.specs.Terms.{Symbol, Add, Subtract, Multiply, Quotient, Remainder, Term, app, result_sort, takes, sort_of_type}
 use Rattle.ss_logic.specs.Formulas.{AtMost, Formula, neg}
-use Rattle.ss_logic_rules.specs.Shapes.{number, null_term, equal, differ, at_most}
-use Rattle.ss_logic_express.specs.Express.{and_of, or_of, and_more, or_more, Meant, Says, over_two, paired, said, element_sort, fits_int, less, equal_meant, operated, operation_parts, not_zero, not_null}
+use Rattle.ss_logic.specs.Shapes.{number, null_term, equal, differ, at_most}
+use Rattle.ss_logic.specs.Express.{and_of, or_of, and_more, or_more, Meant, Says, over_two, paired, said, element_sort, fits_int, less, equal_meant, operated, operation_parts, not_zero, not_null}
 use Rattle.ss_logic_means.specs.Sorts.{AreWellFormed, IsWellExpressed}
 use Rattle.ss_logic_means.proofs.Operands.{where_some, int_or_bool, reference_or_bool, by_comparable}
 use Rattle.ss_logic_means.proofs.Sorting.{sorted_two, formed_two, equal_formed, more_formed}

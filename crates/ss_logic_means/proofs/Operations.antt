@@ -16,8 +16,8 @@ use Rattle.ss_store_rules.specs.Values as run
 use Rattle.ss_logic.specs.Values.{Value, whole, truth, as_whole, as_truth, Structure}
 use Rattle.ss_logic.specs.Terms.{Term}
 use Rattle.ss_logic.specs.Formulas.{Formula, neg}
-use Rattle.ss_logic_rules.specs.Shapes.{number, equal, at_most}
-use Rattle.ss_logic_express.specs.Express.{and_of, or_of, and_more, or_more, Meant, Says, said, less, fits_int, under}
+use Rattle.ss_logic.specs.Shapes.{number, equal, at_most}
+use Rattle.ss_logic.specs.Express.{and_of, or_of, and_more, or_more, Meant, Says, said, less, fits_int, under}
 use Rattle.ss_logic_means.specs.Means.{standing}
 use Rattle.ss_logic_means.proofs.Denoting.{V, M, D, R, and_means, and_more_fails, and_more_means, or_more_holds, or_more_means, or_means, neg_means, says_denotes, said_means, under_off, under_on, reads_then, reads_map}
 

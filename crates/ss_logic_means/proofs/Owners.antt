@@ -15,8 +15,8 @@ use Rattle.ss_logic.specs.Values.{reference, class_name, group_number, owner_pai
 use Rattle.ss_logic.specs.Terms.{Term}
 use Rattle.ss_logic.specs.Formulas.{Formula}
 use Rattle.ss_logic.specs.Objects.{owner_of_thing, objects_of}
-use Rattle.ss_logic_rules.specs.Shapes.{class_term, owner_of, pair_of, equal}
-use Rattle.ss_logic_express.specs.Express.{Meant, Says, over_two}
+use Rattle.ss_logic.specs.Shapes.{class_term, owner_of, pair_of, equal}
+use Rattle.ss_logic.specs.Express.{Meant, Says, over_two}
 use Rattle.ss_logic_means.specs.Means.{standing}
 use Rattle.ss_logic_means.proofs.Denoting.{V, M, D, R, says_denotes, over_two_means}
 use Rattle.ss_logic_means.proofs.Operations.{Gives}

@@ -16,7 +16,7 @@ use Rattle.ss_logic.specs.declared.Sort.TheVariants as sort
 use Rattle.ss_logic.specs.Values.{Value, whole, truth, thing, store, Structure}
 use Rattle.ss_logic.specs.Formulas.{Formula, Forall, Exists, AreOf, neg}
 use Rattle.ss_logic.proofs.Truth.{neg_true, not_both}
-use Rattle.ss_logic_express.specs.Express.{and_of, or_of, Meant, Says, said}
+use Rattle.ss_logic.specs.Express.{and_of, or_of, Meant, Says, said}
 use Rattle.ss_logic_means.proofs.Denoting.{T, M, D, All, R, says_denotes}
 use Rattle.ss_logic_means.proofs.Operations.{IsBool, Gives, bool_standing}
 use Rattle.ss_logic_means.proofs.Quantifiers.{Upto, Gap, Quantifies, quantified_reads, forall_upto, upto_forall, no_more}

@@ -13,8 +13,8 @@ use Rattle.ss_logic.specs.declared.Sort.TheVariants as sort
 use Rattle.ss_logic.specs.Values.{Value, whole, truth, thing, store, Structure}
 use Rattle.ss_logic.specs.Formulas.{Formula, Forall}
 use Rattle.ss_logic.proofs.Truth.{formula_stable}
-use Rattle.ss_logic_rules.proofs.Numbers.{three_ways_true}
-use Rattle.ss_logic_express.specs.Express.{or_of, Meant, said}
+use Rattle.ss_logic.proofs.Numbers.{three_ways_true}
+use Rattle.ss_logic.specs.Express.{or_of, Meant, said}
 use Rattle.ss_logic_means.proofs.Denoting.{T, M, All, R}
 use Rattle.ss_logic_means.proofs.Operations.{IsBool, Gives, truth_denotes}
 

@@ -22,9 +22,9 @@ use Rattle.ss_logic.specs.Terms as term
 use Rattle.ss_logic.specs.Formulas.{Formula}
 use Rattle.ss_logic.specs.Objects.{value_of_thing, content, elements_from, element_count, object_in, objects_of}
 use Rattle.ss_logic.proofs.Tabled.{field_there}
-use Rattle.ss_logic_rules.specs.Shapes.{null_term, class_term, equal, sub_atom, allocated}
-use Rattle.ss_logic_rules.specs.Shapes as shape
-use Rattle.ss_logic_express.specs.Express.{or_of, Meant, over, mapped, not_null}
+use Rattle.ss_logic.specs.Shapes.{null_term, class_term, equal, sub_atom, allocated}
+use Rattle.ss_logic.specs.Shapes as shape
+use Rattle.ss_logic.specs.Express.{or_of, Meant, over, mapped, not_null}
 use Rattle.ss_logic_means.specs.Means.{standing}
 use Rattle.ss_logic_means.proofs.Denoting.{V, M, D, R, or_means, over_means, mapped_denotes, reads_append, reads_then}
 use Rattle.ss_logic_means.proofs.Operations.{Gives}

@@ -14,8 +14,8 @@ use Rattle.ss_store_rules.specs.Values.{Setting}
 use Rattle.ss_store_rules.specs.Values as run
 use Rattle.ss_logic.specs.Values.{null, Heap, Value, whole, thing, store, Structure}
 use Rattle.ss_logic.specs.Terms.{Bound, argument, value_of}
-use Rattle.ss_logic_express.specs.Express.{One, Context, at_entry, with_bound, meant_or_null, local_meant}
-use Rattle.ss_logic_rules.proofs.Numbers.{fits_low, fits_high}
+use Rattle.ss_logic.specs.Express.{One, Context, at_entry, with_bound, meant_or_null, local_meant}
+use Rattle.ss_logic.proofs.Numbers.{fits_low, fits_high}
 use Rattle.ss_machine_typed.specs.Settings.{IsGoodSetting}
 use Rattle.ss_logic_means.specs.Means.{standing, Denotes}
 use Rattle.ss_logic_means.specs.Scenes.{Stands, StandsAmong}

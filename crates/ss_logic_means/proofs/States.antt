@@ -23,9 +23,9 @@ use Rattle.ss_logic.specs.Terms as term
 use Rattle.ss_logic.specs.Formulas.{Formula, neg, is_below}
 use Rattle.ss_logic.specs.Objects.{object_in, objects_of}
 use Rattle.ss_logic.proofs.Tabled.{count}
-use Rattle.ss_logic_rules.specs.Shapes.{class_term, level_of, equal, sub_atom, allocated, committed}
-use Rattle.ss_logic_rules.specs.Shapes as shape
-use Rattle.ss_logic_express.specs.Express.{and_of, Meant, Says, over, mapped, not_null, is_full}
+use Rattle.ss_logic.specs.Shapes.{class_term, level_of, equal, sub_atom, allocated, committed}
+use Rattle.ss_logic.specs.Shapes as shape
+use Rattle.ss_logic.specs.Express.{and_of, Meant, Says, over, mapped, not_null, is_full}
 use Rattle.ss_logic_means.specs.Means.{standing}
 use Rattle.ss_logic_means.proofs.Denoting.{V, M, D, R, and_means, neg_means, says_denotes, over_means, reads_append, reads_then}
 use Rattle.ss_logic_means.proofs.Operations.{Gives}

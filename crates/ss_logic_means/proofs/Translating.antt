@@ -18,8 +18,8 @@ use Rattle.ss_store_rules.specs.Values as run
 use Rattle.ss_logic.specs.Values.{Heap, Value, whole, truth, thing, store, null, Structure}
 use Rattle.ss_logic.specs.Terms.{value_of}
 use Rattle.ss_logic.specs.Objects.{object_in, objects_of}
-use Rattle.ss_logic_rules.specs.Shapes.{number, null_term}
-use Rattle.ss_logic_express.specs.Express.{truth_term, Context, at_entry, with_bound, local_meant, element_sort, meant, defined}
+use Rattle.ss_logic.specs.Shapes.{number, null_term}
+use Rattle.ss_logic.specs.Express.{truth_term, Context, at_entry, with_bound, local_meant, element_sort, meant, defined}
 use Rattle.ss_machine_typed.specs.Settings.{IsGoodSetting}
 use Rattle.ss_machine_typed.proofs.Outcomes.{int_typed}
 use Rattle.ss_machine_typed.proofs.Sound.{old_setting}

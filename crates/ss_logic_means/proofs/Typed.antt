@@ -25,7 +25,7 @@ use Rattle.ss_logic.specs.Values.{reference, Heap, Table, Structure}
 use Rattle.ss_logic.specs.Terms.{sort_of_type, has_field}
 use Rattle.ss_logic.specs.Objects.{object_in, objects_of}
 use Rattle.ss_logic.proofs.Tabled.{there, not_there, count}
-use Rattle.ss_logic_express.specs.Express.{element_sort}
+use Rattle.ss_logic.specs.Express.{element_sort}
 use Rattle.ss_machine_typed.specs.Settings.{IsGoodSetting}
 use Rattle.ss_machine_typed.specs.Older.{IsOlder}
 use Rattle.ss_machine_typed.proofs.Slots.{all_at, of_array}

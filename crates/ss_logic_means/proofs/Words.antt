@@ -15,8 +15,8 @@ use Rattle.ss_logic.specs.Terms.{Term}
 use Rattle.ss_logic.specs.Formulas.{Formula, neg}
 use Rattle.ss_logic.specs.Objects.{owner_of_thing, objects_of}
 use Rattle.ss_logic.proofs.Tabled.{count}
-use Rattle.ss_logic_rules.specs.Shapes.{owner_of, allocated, group}
-use Rattle.ss_logic_express.specs.Express.{Meant, Says, over, not_null}
+use Rattle.ss_logic.specs.Shapes.{owner_of, allocated, group}
+use Rattle.ss_logic.specs.Express.{Meant, Says, over, not_null}
 use Rattle.ss_logic_means.specs.Means.{standing}
 use Rattle.ss_logic_means.proofs.Denoting.{V, M, D, R, neg_means, says_denotes, over_means, reads_then}
 use Rattle.ss_logic_means.proofs.Operations.{Gives}

@@ -6,7 +6,7 @@ use Rattle.ss_store_rules.specs.declared.Value.{Value as ObjectValue}
 use Rattle.ss_store_rules.specs.Locals.{local_types}
 use Rattle.ss_logic.specs.Values.{Structure}
 use Rattle.ss_logic.specs.Terms.{Constant, Term, app, sort_of_type, constant_value}
-use Rattle.ss_logic_express.specs.Express.{One, Context}
+use Rattle.ss_logic.specs.Express.{One, Context}
 use Rattle.ss_logic_means.specs.Means.{standing}
 
 -- a constant for each of these types, of its sort, with numbers from this one on

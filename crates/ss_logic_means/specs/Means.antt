@@ -7,7 +7,7 @@ use Rattle.ss_store_rules.specs.Numbers.{Outcome}
 use Rattle.ss_logic.specs.Values.{null, reference, Value, whole, truth, thing, Structure}
 use Rattle.ss_logic.specs.Terms.{value_of}
 use Rattle.ss_logic.specs.Formulas.{Formula, True, AllTrue, formulas_from}
-use Rattle.ss_logic_express.specs.Express.{Choice, Meant, choices}
+use Rattle.ss_logic.specs.Express.{Choice, Meant, choices}
 
 -- a value of a run as one of a term
 abbrev pub standing : ObjectValue → Value

@@ -13,7 +13,7 @@ use Rattle.ss_store_rules.specs.Admissible.{invariants, AreAdmissible}
 use Rattle.ss_logic.specs.Values.{Heap, Value, store, Structure}
 use Rattle.ss_logic.specs.Terms.{Term, is_well_sorted, value_of}
 use Rattle.ss_logic.specs.Objects.{objects_of}
-use Rattle.ss_logic_express.specs.Express.{Choice, choices, Context, local_meant, subject}
+use Rattle.ss_logic.specs.Express.{Choice, choices, Context, local_meant, subject}
 use Rattle.ss_logic_means.specs.Means.{standing, Denotes}
 
 -- the setting of a run whose stores now and at the entry are those that these of the structure table

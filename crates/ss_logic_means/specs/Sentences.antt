@@ -3,9 +3,9 @@ use Rattle.std.specs.Prelude.{◌≡◌, ℕ, List, [], ◌∷◌, Some, slice_g
 use Rattle.ss_core.specs.Tree.{ClassTree}
 use Rattle.ss_logic.specs.Terms.{Term}
 use Rattle.ss_logic.specs.Formulas.{Good, Formula, atom}
-use Rattle.ss_logic_rules.specs.declared.GoodRule.{GoodRule}
-use Rattle.ss_logic_rules.specs.GoodRules.{good_instance_of}
-use Rattle.ss_logic_express.specs.Invariants.{invariants_of}
+use Rattle.ss_logic.specs.declared.GoodRule.{GoodRule}
+use Rattle.ss_logic.specs.GoodRules.{good_instance_of}
+use Rattle.ss_logic.specs.Invariants.{invariants_of}
 
 -- what one of the rules says of the store, if it is good
 pub data IsOfGood (cs : List ClassTree) (s : Term) (f : Formula) : Type 0 where

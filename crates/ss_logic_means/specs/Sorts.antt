@@ -6,7 +6,7 @@ use Rattle.ss_logic.specs.declared.Sort.{Sort}
 use Rattle.ss_logic.specs.declared.Sort.TheVariants as sort
 use Rattle.ss_logic.specs.Terms.{Term, sort_of_type, sort_of, is_well_sorted}
 use Rattle.ss_logic.specs.Formulas.{Formula, is_well_formed}
-use Rattle.ss_logic_express.specs.Express.{Choice, Meant, choices, Context, local_meant}
+use Rattle.ss_logic.specs.Express.{Choice, Meant, choices, Context, local_meant}
 
 -- a well sorted term of this sort, where the bound names have these
 abbrev pub HasSort : List ClassTree → List Sort → Sort → Term → Type 0

@@ -6,3 +6,14 @@ pub mod Owning
 pub mod Writing
 pub mod Adding
 pub mod Reading
+pub mod Facts
+pub mod Objects
+pub mod Old
+pub mod Standing
+pub mod Naming
+pub mod Freeing
+pub mod Keeping
+pub mod Sorting
+pub mod Growing
+pub mod Bodies
+pub mod Contexts

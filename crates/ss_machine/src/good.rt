@@ -5,7 +5,7 @@ ghost use Rattle.ss_store_rules.specs.Formed.{IsFormed};
 ghost use Rattle.ss_machine_rules.specs.Good.{IsGoodState};
 ghost use Rattle.ss_machine_rules.specs.Runs.{run};
 ghost use Rattle.ss_machine_typed.specs.Inputs.{IsInput};
-ghost use Rattle.ss_machine_non_null.specs.States.{IsNonNullState};
+ghost use Rattle.ss_machine_good.specs.States.{IsNonNullState};
 
 use ss_core::Core;
 

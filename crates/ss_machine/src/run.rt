@@ -8,7 +8,7 @@ ghost use Rattle.ss_machine_rules.specs.Runs.{run, printed, start_with};
 ghost use Rattle.ss_machine_rules.specs.States.{Running};
 ghost use Rattle.ss_machine_rules.specs.Good.{IsGoodState};
 ghost use Rattle.ss_machine_typed.specs.Inputs.{IsInput};
-ghost use Rattle.ss_machine_non_null.specs.States.{IsNonNullState};
+ghost use Rattle.ss_machine_good.specs.States.{IsNonNullState};
 ghost use Rattle.ss_store_rules.specs.Formed.{IsFormed};
 ghost use Rattle.ss_machine_rules.specs.Ends.{IsDoneAt, HasFailed, HasStopped, IsRunning};
 ghost use Rattle.ss_machine.specs.Ends as ends;

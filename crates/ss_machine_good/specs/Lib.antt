@@ -3,3 +3,8 @@ pub mod Known
 pub mod Dispatch
 pub mod Entries
 pub mod Frames
+pub mod Checks
+pub mod Later
+pub mod LaterFrames
+pub mod Stacks
+pub mod States

@@ -1,4 +1,5 @@
-//! The messages on standard error: what is wrong, where, and the line of the source with a mark.
+//! The messages on standard error: what is wrong, where, and the line of the source with a mark. Of what isn't proved they have the values that a
+//! model gives to locals and fields.
 #![tactic(auto)]
 
 mod heard;
@@ -6,6 +7,7 @@ mod lines;
 mod messages;
 mod seen;
 mod sentences;
+mod texts;
 mod verdict;
 
 pub use heard::Heard;

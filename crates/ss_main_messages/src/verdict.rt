@@ -2,9 +2,9 @@
 
 use crate::messages::{error, message};
 use crate::sentences::sentence_of_check;
+use crate::texts::model_texts;
 use ss_core::Place;
-use ss_main_values::model_texts;
-use ss_search::Countered;
+use ss_search_answers::Countered;
 use ss_top_words::Limits;
 use std::alloc::{AllocError, Global};
 

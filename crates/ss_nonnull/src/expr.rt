@@ -7,19 +7,17 @@ ghost use Rattle.ss_typed.specs.View.{expr, grouped};
 ghost use Rattle.ss_nonnull_rules.specs.NonNull.{is_set_result, known_right};
 ghost use Rattle.ss_nonnull_rules.specs.Faults.{inside, handed, wanted_if, parameters, body_in_table, constructor_parameters};
 ghost use Rattle.ss_typed.specs.Parts.{link_behind, step_behind};
-ghost use Rattle.ss_nonnull_facts.specs.Called.{called_types};
+ghost use Rattle.ss_nonnull_seen.specs.Called.{called_types};
 ghost use Rattle.ss_nonnull_seen.specs.Codes.{path_of, context_of, seen_of};
 ghost use Rattle.ss_nonnull_seen.specs.Seen.{Leads, seen, plain, by_type};
 
 use ss_core::{BodyId, ClassId, Operator, Place, Ty, is_non_null};
 use ss_faults::Fault;
-use ss_nonnull_facts::{
-    Called, base_method, constructor, is_non_null_type, method_of, static_method, type_at,
-};
 use ss_nonnull_seen::{
-    Known, NullContext, Seen, aged, called, class_tested, element_read, field_read, learn_side,
-    learnt_at, literal, local_read, negated, note_lacking, null_literal, operated, plain,
-    this_object,
+    Called, Known, NullContext, Seen, aged, base_method, called, class_tested, constructor,
+    element_read, field_read, is_non_null_type, learn_side, learnt_at, literal, local_read,
+    method_of, negated, note_lacking, null_literal, operated, plain, static_method, this_object,
+    type_at,
 };
 use ss_typed::{TypedExpr, TypedLink, TypedStep, class_type, place_of, type_of};
 use std::alloc::{AllocError, Global};

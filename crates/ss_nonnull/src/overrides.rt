@@ -13,7 +13,7 @@ ghost use Rattle.ss_nonnull.specs.Names.{entry_names, table_names, mark_fault};
 
 use ss_core::{BodyId, Class, ClassId, Entry, Place, Rule, is_non_null};
 use ss_faults::Fault;
-use ss_nonnull_facts::{body_of_entry, entry_at, is_non_null_type};
+use ss_nonnull_seen::{body_of_entry, entry_at, is_non_null_type};
 use ss_tables_lookup::NameMap;
 use ss_typed::{Typed, TypedBody, TypedParam, body_at};
 use std::alloc::{AllocError, Global};

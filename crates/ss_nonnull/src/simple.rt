@@ -14,8 +14,9 @@ use crate::expr::{check, check_arguments, check_wanted};
 use ss_ast::AssignOperator;
 use ss_core::{Place, Ty, is_non_null};
 use ss_faults::Fault;
-use ss_nonnull_facts::{above, constructor};
-use ss_nonnull_seen::{Known, NullContext, Seen, assign, declare, literal, note_null, set_left};
+use ss_nonnull_seen::{
+    Known, NullContext, Seen, above, assign, constructor, declare, literal, note_null, set_left,
+};
 use ss_typed::{TypedDeclarator, TypedExpr, TypedInit, TypedSimple};
 use std::alloc::AllocError;
 

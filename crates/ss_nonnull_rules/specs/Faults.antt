@@ -7,7 +7,8 @@ use Rattle.ss_faults.specs.declared.Fault.{Fault}
 use Rattle.ss_core.specs.declared.names.Ty.{Ty}
 use Rattle.ss_core.specs.declared.names.Ty.TheVariants as ty
 use Rattle.ss_core.specs.Tree as core
-use Rattle.ss_core.specs.Chain.{above, declared}
+use Rattle.ss_core.specs.Chain.{above, table}
+pub use Rattle.ss_core.specs.Chain.{table_of}
 use Rattle.ss_typed.specs.Constructors.{written_constructor}
 use Rattle.ss_typed.specs.Tree.{ExprTree, IntOf, BoolOf, NullOf, ThisOf, LocalOf, ResultOf, BoundOf, FieldOf, ElementOf, LengthOf, NegateOf, NotOf, BinaryOf, ImpliesOf, IffOf, IsOf, AsOf, CastOf, OldOf, QuantifiedOf, StateOf, OwnersOf, NewOf, NewArrayOf, CallOf, StaticOf, BaseOf, Arguments, NoMore, Argument, DeclaratorTree, SimpleTree, AssignOf, StepOf, AloneOf, BaseCallOf, PrintOf, PrintTextOf, TypedTree}
 use Rattle.ss_typed.specs.Shapes.{place_of}
@@ -43,13 +44,9 @@ abbrev pub body_of_entry : Option core.EntryTree → Option ℕ
 body_of_entry None = None
 body_of_entry (Some e) = Some e.body
 
-abbrev pub table_of : Option core.ClassTree → List core.EntryTree
-table_of None = []
-table_of (Some c) = c.table
-
 -- the body at this place of the table of the class
 abbrev pub body_in_table : TypedTree → ℕ → ℕ → Option ℕ
-body_in_table p t m = body_of_entry (slice_get (table_of (declared p.classes t)) m)
+body_in_table p t m = body_of_entry (slice_get (table p.classes t) m)
 
 abbrev pub class_of : Option Ty → Option ℕ
 class_of (Some (ty.Ref t non_null)) = Some t.0

@@ -1,3 +1,4 @@
 pub mod Seen
 pub mod Codes
 pub mod Paths
+pub mod Called

@@ -9,7 +9,7 @@ ghost use Rattle.ss_typed.specs.Lookups.{class_place};
 ghost use Rattle.ss_paths_assigned.specs.Numbered.{firsts_from};
 
 use ss_core::{Class, ClassId, FieldId};
-use ss_typed::{Typed, TypedClass, class_place};
+use ss_typed::{Typed, TypedClass};
 use std::alloc::{AllocError, Global};
 
 /// The numbers of the fields that a class declares: the first one, and how many there are.
@@ -35,14 +35,14 @@ impl Numbers {
 pub fn class_at(program: &Typed, class: ClassId) -> Option<&Class>
     ensures { option_map (λ c. class_of c.now) result ≡ slice_get (typed program.now).classes (class_place class.0) }
 {
-    program.classes.list.get(class_place(class))
+    program.classes.list.get(class.list_place())
 }
 
 /// What a class has beside that entry.
 pub fn members_at(program: &Typed, class: ClassId) -> Option<&TypedClass>
     ensures { option_map (λ m. members m.now) result ≡ slice_get (typed program.now).members (class_place class.0) }
 {
-    program.members.get(class_place(class))
+    program.members.get(class.list_place())
 }
 
 // How many fields a class declares.
@@ -107,7 +107,7 @@ impl<'p> Fields<'p> {
     fn first(&self, class: ClassId) -> usize
         ensures { result ≡ (field_numbers (typed self.now.program.now) class.0).first }
     {
-        let place = class_place(class).min(self.program.classes.list.len());
+        let place = class.list_place().min(self.program.classes.list.len());
         self.firsts[place]
     }
 }

@@ -6,10 +6,10 @@ use Rattle.std.proofs.lemmas.List.{drop_more, drop-map, append_assoc}
 use Rattle.std.proofs.lemmas.Bool.{ne_eqb}
 use Rattle.ss_core.specs.Tree.{CoreTree}
 use Rattle.ss_vcgen_heaps.specs.Positions as tree
-use Rattle.ss_search.specs.declared.answers.Countered.{Countered}
-use Rattle.ss_search.specs.declared.answers.Undecided.{Undecided}
-use Rattle.ss_search.specs.declared.answers.Budget.{Budget}
-use Rattle.ss_search.specs.Listed.{countered_numbers, undecided_numbers, AreRisingFrom}
+use Rattle.ss_search_answers.specs.declared.answers.Countered.{Countered}
+use Rattle.ss_search_answers.specs.declared.answers.Undecided.{Undecided}
+use Rattle.ss_search_answers.specs.declared.answers.Budget.{Budget}
+use Rattle.ss_search_answers.specs.Listed.{countered_numbers, undecided_numbers, AreRisingFrom}
 use Rattle.ss_report.specs.Verdict.{is_countered, budget_of, line_of, lines_from}
 
 -- ---- rising numbers

@@ -3,8 +3,8 @@ use Rattle.std.specs.Prelude.{ℕ, List, [], ◌∷◌, ◌++◌, codes, decimal
 use Rattle.ss_core.specs.declared.names.Place.{Place}
 use Rattle.ss_core.specs.declared.names.Kind.{Kind}
 use Rattle.ss_core.specs.declared.names.Kind.TheVariants as kind
-use Rattle.ss_search.specs.declared.answers.Budget.{Budget}
-use Rattle.ss_search.specs.declared.answers.Budget.TheVariants.{Splits, Instances}
+use Rattle.ss_search_answers.specs.declared.answers.Budget.{Budget}
+use Rattle.ss_search_answers.specs.declared.answers.Budget.TheVariants.{Splits, Instances}
 
 -- the name of a kind
 abbrev pub kind_name : Kind → List ℕ

@@ -4,11 +4,11 @@ use Rattle.std.specs.List.{list_any}
 use Rattle.ss_core.specs.Tree.{BodyTree, CoreTree}
 use Rattle.ss_report_names.specs.Names.{declared_name}
 use Rattle.ss_vcgen_heaps.specs.Positions.{Obligation}
-use Rattle.ss_search.specs.declared.answers.Countered.{Countered}
-use Rattle.ss_search.specs.declared.answers.Undecided.{Undecided}
-use Rattle.ss_search.specs.declared.answers.Budget.{Budget}
-use Rattle.ss_search.specs.declared.answers.Verdict.{Verdict}
-use Rattle.ss_search.specs.declared.answers.Verdict.TheVariants as verdict
+use Rattle.ss_search_answers.specs.declared.answers.Countered.{Countered}
+use Rattle.ss_search_answers.specs.declared.answers.Undecided.{Undecided}
+use Rattle.ss_search_answers.specs.declared.answers.Budget.{Budget}
+use Rattle.ss_search_answers.specs.declared.answers.Verdict.{Verdict}
+use Rattle.ss_search_answers.specs.declared.answers.Verdict.TheVariants as verdict
 use Rattle.ss_report.specs.Texts.{verified_line, not_proved_line, undecided_line}
 
 -- ---- what is listed, by the number of the obligation

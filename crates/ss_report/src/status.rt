@@ -5,7 +5,7 @@ ghost use Rattle.ss_report.specs.Status.{failed_text, refused_text, stopped_text
 
 use crate::texts::kind_name;
 use ss_core::{Kind, Place};
-use ss_search::{Countered, Undecided};
+use ss_search_answers::{Countered, Undecided};
 use std::alloc::{AllocError, Global};
 
 /// How a run of the program ends.

@@ -4,7 +4,7 @@ ghost use Rattle.std.specs.Prelude.{◌≡◌, ◌++◌, IfOk, OnOk, string_byte
 ghost use Rattle.ss_report.specs.Texts.{kind_name as kind_words, check_text, budget_text as budget_words, not_proved_line, undecided_line};
 
 use ss_core::{Kind, Place};
-use ss_search::Budget;
+use ss_search_answers::Budget;
 use std::alloc::{AllocError, Global};
 
 /// A check: its kind, its place, and the names of its class and of its body.

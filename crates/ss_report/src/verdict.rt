@@ -5,14 +5,14 @@ ghost use Rattle.ss_core.specs.View as view;
 ghost use Rattle.ss_terms.specs.declared.forms.FormulaId.{FormulaId};
 ghost use Rattle.ss_terms.specs.Forms.{Forms};
 ghost use Rattle.ss_vcgen_builder.specs.Builder.{obligation_at, obligations_at};
-ghost use Rattle.ss_vcgen.specs.Built.{trees};
-ghost use Rattle.ss_search.specs.Listed.{countered_numbers, countered_of, undecided_numbers, undecided_of, AreRisingFrom};
+ghost use Rattle.ss_vcgen_builder.specs.Built.{trees};
+ghost use Rattle.ss_search_answers.specs.Listed.{countered_numbers, countered_of, undecided_numbers, undecided_of, AreRisingFrom};
 ghost use Rattle.ss_report.specs.Verdict.{verdict_text as verdict_of, listed_text as lines_of, line_of, is_countered, budget_of, class_of_body, name_of_body};
 
 use crate::texts::{Check, push_not_proved, push_undecided};
 use ss_core::{BodyId, Core};
-use ss_search::{Budget, Countered, Undecided, Verdict};
-use ss_vcgen::{Listed, Obligations};
+use ss_search_answers::{Budget, Countered, Undecided, Verdict};
+use ss_vcgen_builder::{Listed, Obligations};
 use std::alloc::{AllocError, Global};
 
 // The name of a body's class, or nothing where there is none.

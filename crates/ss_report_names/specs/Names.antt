@@ -1,9 +1,10 @@
 -- The names in the text of a core program. A number of nothing has no name there, and nothing is written for it.
-use Rattle.std.specs.Prelude.{ℕ, List, [], ◌∷◌, ◌++◌, map, length, codes, decimal, bytes_eq, Bool, ◌==◌, ◌-◌, if◌then◌else◌, Option, Some, None, slice_get}
+use Rattle.std.specs.Prelude.{ℕ, List, [], ◌∷◌, ◌++◌, map, length, codes, decimal, bytes_eq, Bool, ◌==◌, if◌then◌else◌, Option, Some, None, slice_get}
 use Rattle.std.specs.List.{list_any}
 use Rattle.ss_core.specs.declared.names.Ty.{Ty}
+use Rattle.ss_core.specs.declared.names.Ty.TheVariants as ty
 use Rattle.ss_core.specs.Tree.{ClassTree, EntryTree, LocalTree, BodyTree}
-use Rattle.ss_core.specs.Kinds.{is_array_number}
+use Rattle.ss_core.specs.Kinds.{is_array_number, element_type}
 use Rattle.ss_core.specs.Chain.{declared, DeclaredField, all_fields}
 
 -- ---- classes
@@ -15,12 +16,22 @@ name_of_class (Some k) = k.name
 abbrev pub declared_name : List ClassTree → ℕ → List ℕ
 declared_name cs t = name_of_class (declared cs t)
 
+-- `object`, or a declared class
+abbrev pub plain_name : List ClassTree → ℕ → List ℕ
+plain_name cs t = if t == 0 then codes "object" else declared_name cs t
+
+abbrev pub type_name : List ClassTree → Ty → List ℕ
+type_name cs ty.Int = codes "int"
+type_name cs ty.Bool = codes "bool"
+type_name cs ty.Null = []
+type_name cs (ty.Ref t non_null) = plain_name cs t.0
+
 -- what the elements of an array are
 abbrev pub element_name : List ClassTree → ℕ → List ℕ
-element_name cs t = if t == 1 then codes "int" else if t == 2 then codes "bool" else if t == 3 then codes "object" else declared_name cs (t - 1)
+element_name cs t = type_name cs (element_type t)
 
 abbrev pub class_name : List ClassTree → ℕ → List ℕ
-class_name cs t = if t == 0 then codes "object" else if is_array_number t then element_name cs t ++ codes "[]" else declared_name cs t
+class_name cs t = if is_array_number t then element_name cs t ++ codes "[]" else plain_name cs t
 
 -- ---- fields and methods
 

@@ -5,7 +5,7 @@ ghost use Rattle.ss_core.specs.View as view;
 ghost use Rattle.ss_report_names.specs.Names as names;
 ghost use Rattle.ss_report_names.specs.Tables.{texts};
 
-use ss_core::{Body, BodyId, ClassId, Classes};
+use ss_core::{Body, BodyId, ClassId, Classes, Ty};
 use std::alloc::AllocError;
 
 /// The name of this number, or nothing where there is none.
@@ -27,15 +27,23 @@ fn declared_name(classes: &Classes, t: ClassId) -> &[u8]
     }
 }
 
+fn plain_name(classes: &Classes, t: ClassId) -> &[u8]
+    ensures { result.now ≡ names.plain_name (view.classes classes.now) t.0 }
+{
+    if t.0 == 0 {
+        return b"object";
+    }
+    declared_name(classes, t)
+}
+
 fn element_name(classes: &Classes, t: ClassId) -> &[u8]
     ensures { result.now ≡ names.element_name (view.classes classes.now) t.0 }
 {
-    match t.0 {
-        0 => b"",
-        1 => b"int",
-        2 => b"bool",
-        3 => b"object",
-        _ => declared_name(classes, ClassId(t.0 - 1)),
+    match t.element_type() {
+        Ty::Int => b"int",
+        Ty::Bool => b"bool",
+        Ty::Null => b"",
+        Ty::Ref { class, .. } => plain_name(classes, class),
     }
 }
 
@@ -50,14 +58,11 @@ pub fn push_element(out: &mut Vec<u8>, classes: &Classes, t: ClassId) -> Result<
 pub fn push_class(out: &mut Vec<u8>, classes: &Classes, t: ClassId) -> Result<(), AllocError>
     ensures { OnOk result (out.new.items ≡ out.old.items ++ names.class_name (view.classes classes.now) t.0) }
 {
-    if t.0 == 0 {
-        return out.extend_from_slice(b"object");
-    }
     if t.is_array() {
         push_element(out, classes, t)?;
         return out.extend_from_slice(b"[]");
     }
-    out.extend_from_slice(declared_name(classes, t))
+    out.extend_from_slice(plain_name(classes, t))
 }
 
 /// The method at a place of a class's table.

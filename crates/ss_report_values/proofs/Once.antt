@@ -6,7 +6,7 @@ use Rattle.std.proofs.lemmas.List.Folds.{list_any-append}
 use Rattle.ss_logic.specs.Terms.{Term, Bound, App, Terms, no_terms, term_then}
 use Rattle.ss_logic.specs.Formulas.{Formula, Literal, And, Or, Forall, Exists}
 use Rattle.ss_logic.specs.Equal.{same_term, equal_terms, same_term_equal}
-use Rattle.ss_logic_ground.specs.Occurring.{with_term, with_arguments, with_terms_of, with_terms_of_all, atoms, terms}
+use Rattle.ss_logic.specs.Occurring.{with_term, with_arguments, with_terms_of, with_terms_of_all, atoms, terms}
 
 -- no term stands among those behind it
 abbrev pub Once : List Term → Type 0

@@ -5,8 +5,8 @@ use Rattle.std.proofs.lemmas.Bool.{false≢true, and_parts, eqb-true, eq-eqb}
 use Rattle.ss_logic.specs.Terms.{Term, App, Number, Fixed, Null, no_terms}
 use Rattle.ss_logic.specs.Formulas.{Formula}
 use Rattle.ss_logic.specs.Equal.{same_term, equal_terms, same_term_equal}
-use Rattle.ss_logic_derivations.specs.Steps.{is_value}
-use Rattle.ss_logic_ground.specs.Occurring.{terms}
+use Rattle.ss_logic_means.specs.Steps.{is_value}
+use Rattle.ss_logic.specs.Occurring.{terms}
 use Rattle.ss_logic_countermodels.specs.Refuting.{Model, Agrees, model_of, place_among, are_apart}
 use Rattle.ss_report_values.specs.declared.literals.Value.{Value}
 use Rattle.ss_report_values.specs.Literals.{value_of, value_or, value_in, value_at}

@@ -6,7 +6,7 @@ use Rattle.std.proofs.lemmas.Bool.{eqb-true, eq-eqb}
 use Rattle.ss_logic.specs.Terms.{Field, Term, App, terms_from}
 use Rattle.ss_logic.specs.Formulas.{Formula}
 use Rattle.ss_logic.specs.Equal.{same_term, same_term_equal, same_symbol, symbols_discrete, answer_from}
-use Rattle.ss_logic_ground.specs.Occurring.{terms}
+use Rattle.ss_logic.specs.Occurring.{terms}
 use Rattle.ss_logic_countermodels.specs.Refuting.{Model, Agrees, model_of, place_among, are_congruent, implies}
 use Rattle.ss_terms.specs.declared.forms.TermId.{TermId}
 use Rattle.ss_terms.specs.Forms.{Forms, term_at, terms_at, HasTerms}

@@ -4,8 +4,8 @@ use Rattle.std.specs.List.{list_any}
 use Rattle.ss_logic.specs.Terms.{Term}
 use Rattle.ss_logic.specs.Formulas.{Formula}
 use Rattle.ss_logic.specs.Equal.{same_term}
-use Rattle.ss_logic_derivations.specs.Steps.{is_value}
-use Rattle.ss_logic_ground.specs.Occurring.{terms}
+use Rattle.ss_logic_means.specs.Steps.{is_value}
+use Rattle.ss_logic.specs.Occurring.{terms}
 use Rattle.ss_logic_countermodels.specs.Refuting.{Model}
 use Rattle.ss_report_values.specs.declared.literals.Value.{Value}
 use Rattle.ss_report_values.specs.Literals.{value_of}

@@ -3,7 +3,7 @@
 ghost use Rattle.std.specs.Prelude.{◌≡◌, ℕ, List, Bool, Some};
 ghost use Rattle.ss_logic.specs.Terms.{Term};
 ghost use Rattle.ss_logic.specs.Formulas.{Formula};
-ghost use Rattle.ss_logic_ground.specs.Occurring.{terms};
+ghost use Rattle.ss_logic.specs.Occurring.{terms};
 ghost use Rattle.ss_logic_countermodels.specs.Refuting.{Agrees, model_of};
 ghost use Rattle.ss_report_values.specs.declared.literals.Value.{Value};
 ghost use Rattle.ss_report_values.specs.Fields.{read_term, HasFieldValue};

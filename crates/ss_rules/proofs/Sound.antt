@@ -6,12 +6,12 @@ use Rattle.ss_core.specs.Chain.{IsChain, NoAlso}
 use Rattle.ss_logic.specs.Values.{Structure}
 use Rattle.ss_logic.specs.Terms.{Term}
 use Rattle.ss_logic.specs.Formulas.{Good, Formula, True, IsValid, atom}
-use Rattle.ss_logic_rules.specs.declared.RuleName.TheVariants as every
-use Rattle.ss_logic_rules.specs.declared.GoodRule.TheVariants as good
-use Rattle.ss_logic_rules.specs.GoodRules.{good_instance_of}
-use Rattle.ss_logic_rules.proofs.Ruling.{instance_of_true}
-use Rattle.ss_logic_rules.proofs.Goods.{good_instance_true}
-use Rattle.ss_logic_express.specs.Invariants.{invariants_of}
+use Rattle.ss_logic.specs.declared.RuleName.TheVariants as every
+use Rattle.ss_logic.specs.declared.GoodRule.TheVariants as good
+use Rattle.ss_logic.specs.GoodRules.{good_instance_of}
+use Rattle.ss_logic.proofs.Ruling.{instance_of_true}
+use Rattle.ss_logic.proofs.Goods.{good_instance_true}
+use Rattle.ss_logic.specs.Invariants.{invariants_of}
 use Rattle.ss_logic_means.specs.Scenes.{AreInvariants}
 use Rattle.ss_logic_means.proofs.Invariants.{invariants_true}
 use Rattle.ss_terms.specs.declared.forms.FormulaId.{FormulaId}

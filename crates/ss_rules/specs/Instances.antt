@@ -3,11 +3,11 @@ use Rattle.std.specs.Prelude.{List, [], ◌∷◌, Bool, true, false, Option, No
 use Rattle.ss_core.specs.Tree.{ClassTree}
 use Rattle.ss_logic.specs.Terms.{Term}
 use Rattle.ss_logic.specs.Formulas.{Good, Formula, atom}
-use Rattle.ss_logic_rules.specs.declared.GoodRule.TheVariants as good
-use Rattle.ss_logic_rules.specs.Reads.{read_instance}
-use Rattle.ss_logic_rules.specs.Rules.{numbered, fresh_of, class_of, split_of, apart_of, quorem_of, bool_of}
-use Rattle.ss_logic_rules.specs.GoodRules.{good_instance_of}
-use Rattle.ss_logic_express.specs.Invariants.{invariants_of}
+use Rattle.ss_logic.specs.declared.GoodRule.TheVariants as good
+use Rattle.ss_logic.specs.Reads.{read_instance}
+use Rattle.ss_logic.specs.Rules.{numbered, fresh_of, class_of, split_of, apart_of, quorem_of, bool_of}
+use Rattle.ss_logic.specs.GoodRules.{good_instance_of}
+use Rattle.ss_logic.specs.Invariants.{invariants_of}
 use Rattle.ss_rules.specs.declared.names.RuleName.{RuleName}
 use Rattle.ss_rules.specs.declared.names.RuleName.TheVariants as rule
 

@@ -1,1 +1,5 @@
 pub mod Instances
+pub mod AreMade
+pub mod Said
+pub mod Comes
+pub mod Grounds

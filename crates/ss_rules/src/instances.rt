@@ -4,17 +4,16 @@ ghost use Rattle.std.specs.Prelude.{◌≡◌, [], true, false, IfOk, IfSome};
 ghost use Rattle.ss_core.specs.Chain.{IsChain, NoAlso, IsWithinLimits};
 ghost use Rattle.ss_core.specs.View as view;
 ghost use Rattle.ss_logic.specs.Formulas.{IsValid};
-ghost use Rattle.ss_logic_rules.specs.GoodRules.{good_instance_of};
-ghost use Rattle.ss_logic_express.specs.Invariants.{invariants_of};
+ghost use Rattle.ss_logic.specs.GoodRules.{good_instance_of};
+ghost use Rattle.ss_logic.specs.Invariants.{invariants_of};
 ghost use Rattle.ss_logic_means.specs.Scenes.{AreInvariants};
 ghost use Rattle.ss_terms.specs.Forms.{terms_at, formula_at, HasTerms, IsFormulaNumber, IsGrown, IsBankOf};
 ghost use Rattle.ss_rules.specs.Instances.{of_store, sentence_of, is_everywhere, store_is_good};
 
 use crate::names::RuleName;
 use ss_core::{Classes, Core};
-use ss_logic_rules::{GoodRule, RuleName as EveryRule};
-use ss_rules_instances::{good_instance, instance as every_instance};
-use ss_rules_invariants::invariants;
+use ss_logic::{GoodRule, RuleName as EveryRule};
+use ss_rules_instances::{good_instance, instance as every_instance, invariants};
 use ss_terms::{Bank, FormulaId, TermId};
 use std::alloc::{AllocError, Global};
 

@@ -3,16 +3,17 @@
 ghost use Rattle.std.specs.Prelude.{◌≡◌, ℕ, [], ◌∷◌, Some, None, Err, IfOk};
 ghost use Rattle.ss_core.specs.Chain.{IsWithinLimits};
 ghost use Rattle.ss_core.specs.View as view;
-ghost use Rattle.ss_logic_ground.specs.Ground.{ground_form};
+ghost use Rattle.ss_logic.specs.Ground.{ground_form};
 ghost use Rattle.ss_logic_means.specs.Sorts.{AreWellFormed};
-ghost use Rattle.ss_logic_origins.specs.Origins.{AreAccepted};
+ghost use Rattle.ss_logic_means.specs.Origins.{AreAccepted};
 ghost use Rattle.ss_rules.specs.declared.rules.GroundStop.TheVariants.{Memory};
 ghost use Rattle.ss_rules_opened.specs.Choices.{choices_at, HasChoices};
-ghost use Rattle.ss_rules_origins.specs.Views.{ComeFrom};
+ghost use Rattle.ss_rules_opened.specs.Views.{ComeFrom};
 ghost use Rattle.ss_terms.specs.Forms.{formula_at, formulas_at, HasFormula, HasFormulas, IsGrown, IsBankOf};
 
+use crate::form::{self, GroundForm, Grounded};
+use crate::ground_context::GroundContext;
 use ss_core::Core;
-use ss_rules_ground::{GroundContext, GroundForm, Grounded};
 use ss_terms::{Bank, FormulaId, Obligation};
 use std::alloc::{AllocError, Global};
 
@@ -58,7 +59,7 @@ pub fn ground(
         limit: limit as usize,
     };
     let rounds = rounds as usize;
-    let found = ss_rules_ground::ground(&context, bank, premises, goal, rounds)?;
+    let found = form::ground(&context, bank, premises, goal, rounds)?;
     match found {
         GroundForm::Formulas(formulas) => Ok(formulas),
         GroundForm::TooMany => Err(GroundStop::TooMany { limit }),
@@ -94,7 +95,7 @@ pub fn ground_with_origins(
         limit: limit as usize,
     };
     let rounds = rounds as usize;
-    let found = ss_rules_ground::ground_with_origins(&context, bank, premises, goal, rounds)?;
+    let found = form::ground_with_origins(&context, bank, premises, goal, rounds)?;
     match found {
         Some(grounded) => Ok(grounded),
         None => Err(GroundStop::TooMany { limit }),

@@ -7,8 +7,8 @@ use Rattle.std.proofs.lemmas.List.Elements.{filter-append}
 use Rattle.ss_logic.specs.Terms.{Term, Terms, no_terms, term_then, terms_from}
 use Rattle.ss_logic.specs.Formulas.{Predicate, Equal, AtMost, Sub, Allocated, Committed, Ready, IsGroup, Good, Formula, Literal, And, Or, Forall, Exists}
 use Rattle.ss_logic.specs.Equal.{same_term, equal_terms}
-use Rattle.ss_logic_rules.specs.Reads.{is_constant_store}
-use Rattle.ss_logic_ground.specs.Asked.{Reading, Asked, second_where_first, equals, asked_of_equal, asked_at_equal, asked_at_read, asked_over}
+use Rattle.ss_logic.specs.Reads.{is_constant_store}
+use Rattle.ss_logic.specs.Asked.{Reading, Asked, second_where_first, equals, asked_of_equal, asked_at_equal, asked_at_read, asked_over}
 use Rattle.ss_terms.specs.declared.forms.TermId.{TermId}
 use Rattle.ss_terms.specs.declared.forms.FormulaId.{FormulaId}
 use Rattle.ss_terms.specs.Forms.{Forms, term_at, terms_at, HasFormula, HasFormulas}

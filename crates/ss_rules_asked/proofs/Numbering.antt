@@ -4,10 +4,10 @@ use Rattle.ss_logic.specs.declared.Sort.{Sort}
 use Rattle.ss_logic.specs.declared.Sort.TheVariants as sort
 use Rattle.ss_logic.specs.Terms as tree
 use Rattle.ss_logic.specs.Terms.{Term, Terms, no_terms, term_then, App, terms_from}
-use Rattle.ss_logic_rules.specs.declared.RuleName.{RuleName}
-use Rattle.ss_logic_rules.specs.Reads as reads
-use Rattle.ss_logic_rules.specs.Rules as rules
-use Rattle.ss_logic_ground.specs.Asked as spec
+use Rattle.ss_logic.specs.declared.RuleName.{RuleName}
+use Rattle.ss_logic.specs.Reads as reads
+use Rattle.ss_logic.specs.Rules as rules
+use Rattle.ss_logic.specs.Asked as spec
 use Rattle.ss_terms.specs.Lists.{SmallVec}
 use Rattle.ss_terms.specs.declared.forms.TermId.{TermId}
 use Rattle.ss_terms.specs.declared.forms.Symbol.{Symbol}

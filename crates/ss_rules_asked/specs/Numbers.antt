@@ -1,11 +1,11 @@
 -- What instances that are asked for stand for in a bank.
 use Rattle.std.specs.Prelude.{◌≡◌, List, [], ◌∷◌, map}
 use Rattle.ss_logic.specs.Terms.{Term}
-use Rattle.ss_logic_rules.specs.declared.RuleName.{RuleName}
-use Rattle.ss_logic_rules.specs.declared.GoodRule.{GoodRule}
-use Rattle.ss_logic_rules.specs.Shapes.{class_term}
-use Rattle.ss_logic_ground.specs.Asked as spec
-use Rattle.ss_logic_ground.specs.Asked.{numeral}
+use Rattle.ss_logic.specs.declared.RuleName.{RuleName}
+use Rattle.ss_logic.specs.declared.GoodRule.{GoodRule}
+use Rattle.ss_logic.specs.Shapes.{class_term}
+use Rattle.ss_logic.specs.Asked as spec
+use Rattle.ss_logic.specs.Asked.{numeral}
 use Rattle.ss_terms.specs.declared.forms.TermId.{TermId}
 use Rattle.ss_terms.specs.Forms.{Forms, term_at, HasTerm}
 use Rattle.ss_rules_asked.specs.declared.asked.Argument.{Argument}

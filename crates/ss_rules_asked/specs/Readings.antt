@@ -2,9 +2,9 @@
 use Rattle.std.specs.Prelude.{◌≡◌, List, [], ◌∷◌, map, Bool, true, false, Option, Some, None, option_map, IfSome}
 use Rattle.ss_logic.specs.Terms.{Term, Terms, no_terms, term_then}
 use Rattle.ss_logic.specs.Formulas.{Equal, Formula, Literal}
-use Rattle.ss_logic_rules.specs.Reads.{is_constant_store}
-use Rattle.ss_logic_ground.specs.Asked as spec
-use Rattle.ss_logic_ground.specs.Asked.{numeral}
+use Rattle.ss_logic.specs.Reads.{is_constant_store}
+use Rattle.ss_logic.specs.Asked as spec
+use Rattle.ss_logic.specs.Asked.{numeral}
 use Rattle.ss_terms.specs.declared.forms.TermId.{TermId}
 use Rattle.ss_terms.specs.Forms.{Forms, term_at, terms_at, HasTerm, HasTerms}
 use Rattle.ss_rules_asked.specs.declared.forms.Others.{Others}

@@ -3,7 +3,7 @@ use Rattle.std.specs.Prelude.{List}
 use Rattle.ss_core.specs.Tree.{ClassTree}
 use Rattle.ss_logic.specs.Terms.{Term}
 use Rattle.ss_logic.specs.Formulas.{Formula}
-use Rattle.ss_logic_ground.specs.Asked.{Asked, asked_at_next, asked_at_owner, asked_of_term, asked_of_classes, asked_of_pair, asked_of_two_pairs, asked_of_truth, asked_at_division, asked_at_count, asked_at_equation, asked_at_equal, asked_at_new, asked_of_class}
+use Rattle.ss_logic.specs.Asked.{Asked, asked_at_next, asked_at_owner, asked_of_term, asked_of_classes, asked_of_pair, asked_of_two_pairs, asked_of_truth, asked_at_division, asked_at_count, asked_at_equation, asked_at_equal, asked_at_new, asked_of_class}
 use Rattle.ss_terms.specs.Forms.{Forms, term_at, HasTerm}
 use Rattle.ss_rules_asked.specs.declared.among.Among.{Among}
 use Rattle.ss_rules_asked.specs.declared.among.Among.TheVariants as some

@@ -2,7 +2,7 @@
 
 ghost use Rattle.std.specs.Prelude.{◌++◌, flat_map, OnOk};
 ghost use Rattle.ss_core.specs.View as view;
-ghost use Rattle.ss_logic_ground.specs.Asked as spec;
+ghost use Rattle.ss_logic.specs.Asked as spec;
 ghost use Rattle.ss_terms.specs.Forms.{term_at, terms_at, HasTerm, HasTerms, IsBankOf};
 ghost use Rattle.ss_rules_asked.specs.Numbers.{asked_in, HasAsked, Asks};
 ghost use Rattle.ss_rules_asked.specs.Sentences.{among};
@@ -11,7 +11,7 @@ use crate::asked::{Argument, Asked, Rule, ask};
 use crate::context::AskingContext;
 use crate::forms::{is_class_name, store_before};
 use crate::lists::{AtTerm, ask_at_terms};
-use ss_logic_rules::RuleName;
+use ss_logic::RuleName;
 use ss_terms::TermId;
 use std::alloc::AllocError;
 

@@ -3,7 +3,7 @@
 ghost use Rattle.std.specs.Prelude.{◌≡◌, [], ◌∷◌, ◌++◌, OnOk};
 ghost use Rattle.ss_rules_asked.specs.Numbers.{rule_at, arguments_at, asked_in, asked_with, HasRule, HasArguments, HasAsked, Asks};
 
-use ss_logic_rules::{GoodRule, RuleName};
+use ss_logic::{GoodRule, RuleName};
 use ss_terms::{Bank, TermId};
 use std::alloc::{AllocError, Global};
 

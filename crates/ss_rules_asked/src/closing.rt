@@ -2,7 +2,7 @@
 
 ghost use Rattle.std.specs.Prelude.{◌++◌, flat_map, IfOk, OnOk};
 ghost use Rattle.ss_core.specs.View as view;
-ghost use Rattle.ss_logic_ground.specs.Asked as spec;
+ghost use Rattle.ss_logic.specs.Asked as spec;
 ghost use Rattle.ss_terms.specs.Forms.{terms_at, formulas_at, HasTerms, HasFormulas, IsBankOf};
 ghost use Rattle.ss_rules_asked.specs.Numbers.{asked_in, HasAsked, Asks};
 ghost use Rattle.ss_rules_asked.specs.Readings.{reading_at, readings_at, HasReading, HasReadings};

@@ -5,9 +5,9 @@ ghost use Rattle.ss_core.specs.Tree.{ClassTree};
 ghost use Rattle.ss_logic.specs.declared.Sort.TheVariants as sort;
 ghost use Rattle.ss_logic.specs.Terms as tree;
 ghost use Rattle.ss_logic.specs.Terms.{App, terms_from};
-ghost use Rattle.ss_logic_rules.specs.Reads as reads;
-ghost use Rattle.ss_logic_rules.specs.Rules as rules;
-ghost use Rattle.ss_logic_ground.specs.Asked as spec;
+ghost use Rattle.ss_logic.specs.Reads as reads;
+ghost use Rattle.ss_logic.specs.Rules as rules;
+ghost use Rattle.ss_logic.specs.Asked as spec;
 ghost use Rattle.ss_terms.specs.Forms.{term_at, terms_at, formula_at, HasTerm, HasTerms, HasFormula, IsBankOf};
 ghost use Rattle.ss_rules_asked.specs.Readings.{nothing, first_of_two, first_is_constant, is_store_equation, IsReading, IsOne, IsCount};
 

@@ -1,7 +1,7 @@
 // Reads, counts and pairs, gathered.
 
 ghost use Rattle.std.specs.Prelude.{◌≡◌, ◌∷◌, [], ◌++◌, filter, filter_map, option_map, option_to_list, IfOk, IfSome, OnOk};
-ghost use Rattle.ss_logic_ground.specs.Asked as spec;
+ghost use Rattle.ss_logic.specs.Asked as spec;
 ghost use Rattle.ss_terms.specs.Forms.{term_at, terms_at, formula_at, formulas_at, HasTerm, HasTerms, HasFormula, HasFormulas};
 ghost use Rattle.ss_rules_asked.specs.Readings.{is_store_equation, reading_at, readings_at, counts_at, all_counts_at, HasReading, HasReadings, HasCount, HasCounts, AreReadings, AreCounts, AreTerms};
 

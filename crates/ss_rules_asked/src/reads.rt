@@ -1,14 +1,14 @@
 // What is asked for at reads.
 
 ghost use Rattle.std.specs.Prelude.{◌≡◌, ◌++◌, flat_map, IfOk, OnOk};
-ghost use Rattle.ss_logic_ground.specs.Asked as spec;
+ghost use Rattle.ss_logic.specs.Asked as spec;
 ghost use Rattle.ss_terms.specs.Forms.{formula_at, formulas_at, HasFormula, HasFormulas};
 ghost use Rattle.ss_rules_asked.specs.Numbers.{arguments_at, asked_in, HasArguments, HasAsked, Asks};
 ghost use Rattle.ss_rules_asked.specs.Readings.{reading_at, HasReading};
 
 use crate::asked::{Argument, Asked, Rule, ask};
 use crate::forms::{Others, Reading, equals};
-use ss_logic_rules::RuleName;
+use ss_logic::RuleName;
 use ss_terms::{Bank, FormulaId};
 use std::alloc::{AllocError, Global};
 

@@ -3,14 +3,14 @@
 ghost use Rattle.std.specs.Prelude.{◌++◌, OnOk};
 ghost use Rattle.ss_core.specs.View as view;
 ghost use Rattle.ss_logic.specs.Terms.{terms_from};
-ghost use Rattle.ss_logic_ground.specs.Asked as spec;
+ghost use Rattle.ss_logic.specs.Asked as spec;
 ghost use Rattle.ss_terms.specs.Forms.{term_at, terms_at, formula_at, HasTerm, HasTerms, HasFormula, IsBankOf};
 ghost use Rattle.ss_rules_asked.specs.Numbers.{asked_in, HasAsked, Asks};
 
 use crate::asked::{Argument, Asked, Rule, ask};
 use crate::forms::{counted, is_class_name, is_pair, is_unknown_truth, owned_in};
 use ss_core::Classes;
-use ss_logic_rules::RuleName;
+use ss_logic::RuleName;
 use ss_terms::{Bank, Formula, FormulaId, Predicate, Symbol, Term, TermId};
 use std::alloc::{AllocError, Global};
 

@@ -5,8 +5,8 @@ use Rattle.ss_core.specs.Tree.{ClassTree}
 use Rattle.ss_core.specs.View as view
 use Rattle.ss_core.specs.declared.class.Class.{Class}
 use Rattle.ss_logic.specs.Terms.{Term}
-use Rattle.ss_logic_rules.specs.Shapes.{class_term}
-use Rattle.ss_logic_ground.specs.Asked as spec
+use Rattle.ss_logic.specs.Shapes.{class_term}
+use Rattle.ss_logic.specs.Asked as spec
 use Rattle.ss_terms.specs.Forms.{Forms}
 use Rattle.ss_rules_asked.specs.declared.asked.Argument.{Argument}
 use Rattle.ss_rules_asked.specs.declared.asked.Argument.TheVariants as argument

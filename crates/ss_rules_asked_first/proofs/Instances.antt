@@ -4,10 +4,10 @@ use Rattle.std.specs.Prelude.{flat_map, filter_map}
 use Rattle.ss_core.specs.Tree.{ClassTree}
 use Rattle.ss_logic.specs.Terms.{Term}
 use Rattle.ss_logic.specs.Formulas.{Formula}
-use Rattle.ss_logic_rules.specs.declared.GoodRule.{GoodRule}
-use Rattle.ss_logic_rules.specs.declared.GoodRule.TheVariants as good_rule
-use Rattle.ss_logic_ground.specs.Asked as spec
-use Rattle.ss_logic_ground.specs.Asked.{OfGood, OfInvariants, numeral}
+use Rattle.ss_logic.specs.declared.GoodRule.{GoodRule}
+use Rattle.ss_logic.specs.declared.GoodRule.TheVariants as good_rule
+use Rattle.ss_logic.specs.Asked as spec
+use Rattle.ss_logic.specs.Asked.{OfGood, OfInvariants, numeral}
 use Rattle.ss_rules_asked_first.specs.declared.goods.Sentence.{Sentence}
 use Rattle.ss_rules_asked_first.specs.declared.goods.Sentence.TheVariants as sentence
 use Rattle.ss_rules_asked_first.specs.Good.{Nearby, at_read, in_stores, owned_parts, level_parts, owner_parts, gathered, asked_about_good}

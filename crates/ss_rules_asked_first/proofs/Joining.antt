@@ -3,7 +3,7 @@ use Rattle.std.proofs.Common.{◌≡◌, ℕ, ◌+◌, ◌<◌, List, [], ◌∷
 use Rattle.std.specs.Prelude.{flat_map, OnOk}
 use Rattle.std.proofs.lemmas.List.{append-nil, map_push, map-append, take_more, flat_map_more}
 use Rattle.ss_logic.specs.Terms.{Term}
-use Rattle.ss_logic_ground.specs.Asked as spec
+use Rattle.ss_logic.specs.Asked as spec
 use Rattle.ss_terms.specs.Forms.{Forms}
 use Rattle.ss_rules_asked.specs.declared.asked.Argument.{Argument}
 use Rattle.ss_rules_asked.specs.declared.asked.Asked.{Asked}

@@ -3,10 +3,10 @@ use Rattle.std.specs.Prelude.{◌≡◌, ℕ, List, [], ◌∷◌, ◌++◌, map
 use Rattle.ss_core.specs.Tree.{ClassTree}
 use Rattle.ss_logic.specs.Terms.{Term}
 use Rattle.ss_logic.specs.Formulas.{Formula}
-use Rattle.ss_logic_rules.specs.declared.GoodRule.{GoodRule}
-use Rattle.ss_logic_rules.specs.declared.GoodRule.TheVariants as good_rule
-use Rattle.ss_logic_ground.specs.Asked as spec
-use Rattle.ss_logic_ground.specs.Asked.{numeral}
+use Rattle.ss_logic.specs.declared.GoodRule.{GoodRule}
+use Rattle.ss_logic.specs.declared.GoodRule.TheVariants as good_rule
+use Rattle.ss_logic.specs.Asked as spec
+use Rattle.ss_logic.specs.Asked.{numeral}
 use Rattle.ss_terms.specs.declared.forms.TermId.{TermId}
 use Rattle.ss_terms.specs.Forms.{Forms, term_at, terms_at, HasTerm, HasTerms}
 use Rattle.ss_rules_asked.specs.Numbers.{arguments_at, HasArguments}

@@ -3,7 +3,7 @@
 ghost use Rattle.std.specs.Prelude.{◌++◌, IfOk, OnOk};
 ghost use Rattle.ss_core.specs.Chain.{IsWithinLimits};
 ghost use Rattle.ss_core.specs.View as view;
-ghost use Rattle.ss_logic_ground.specs.Asked as spec;
+ghost use Rattle.ss_logic.specs.Asked as spec;
 ghost use Rattle.ss_terms.specs.Forms.{terms_at, formulas_at, HasTerms, HasFormulas, IsBankOf};
 ghost use Rattle.ss_rules_asked.specs.Numbers.{asked_in, HasAsked, Asks};
 ghost use Rattle.ss_rules_asked_first.specs.Good as words;
@@ -12,7 +12,7 @@ use crate::gathered::good_stores;
 use crate::goods::{Sentence, ask_by_sentences};
 use crate::near::{AskingContext, gather};
 use ss_core::Classes;
-use ss_logic_rules::GoodRule;
+use ss_logic::GoodRule;
 use ss_rules_asked::{Asked, AtAtom, AtTerm, ask_at_atoms, ask_at_terms};
 use ss_terms::{Bank, FormulaId, TermId};
 use std::alloc::{AllocError, Global};

@@ -1,7 +1,7 @@
 // Good stores, and arrays of which a length is read.
 
 ghost use Rattle.std.specs.Prelude.{◌++◌, filter_map, option_map, option_to_list, IfOk, IfSome, OnOk};
-ghost use Rattle.ss_logic_ground.specs.Asked as spec;
+ghost use Rattle.ss_logic.specs.Asked as spec;
 ghost use Rattle.ss_terms.specs.Forms.{term_at, terms_at, formulas_at, HasTerm, HasTerms, HasFormulas};
 ghost use Rattle.ss_rules_asked.specs.Readings.{AreTerms};
 

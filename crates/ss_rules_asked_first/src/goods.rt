@@ -2,9 +2,9 @@
 
 ghost use Rattle.std.specs.Prelude.{◌≡◌, ◌==◌, ◌&&◌, [], ◌∷◌, ◌++◌, map, flat_map, OnOk};
 ghost use Rattle.ss_logic.specs.Equal.{same_term};
-ghost use Rattle.ss_logic_rules.specs.declared.GoodRule.TheVariants as good_rule;
-ghost use Rattle.ss_logic_ground.specs.Asked as spec;
-ghost use Rattle.ss_logic_ground.specs.Asked.{OfGood};
+ghost use Rattle.ss_logic.specs.declared.GoodRule.TheVariants as good_rule;
+ghost use Rattle.ss_logic.specs.Asked as spec;
+ghost use Rattle.ss_logic.specs.Asked.{OfGood};
 ghost use Rattle.ss_terms.specs.Forms.{term_at, terms_at, HasTerm, HasTerms};
 ghost use Rattle.ss_rules_asked.specs.Numbers.{arguments_at, asked_in, HasArguments, HasAsked, Asks};
 ghost use Rattle.ss_rules_asked.specs.Readings.{reading_at, HasReading};
@@ -14,7 +14,7 @@ ghost use Rattle.ss_rules_asked_first.specs.Good.{owners_at, nearby_at, HasOwner
 use crate::near::AskingContext;
 use crate::owners::Owner;
 use crate::parts::{ask_short, ask_with_each, ask_with_owners, is_kind, others_of};
-use ss_logic_rules::GoodRule;
+use ss_logic::GoodRule;
 use ss_rules_asked::{Argument, Asked, Reading, Rule};
 use ss_terms::{Bank, TermId};
 use std::alloc::AllocError;

@@ -3,8 +3,8 @@
 ghost use Rattle.std.specs.Prelude.{◌≡◌, ◌≤◌, ◌++◌, [], ◌∷◌, length, not, if◌then◌else◌, IfOk, OnOk};
 ghost use Rattle.ss_core.specs.Chain.{most_classes};
 ghost use Rattle.ss_core.specs.View as view;
-ghost use Rattle.ss_logic_rules.specs.Shapes.{class_term};
-ghost use Rattle.ss_logic_ground.specs.Asked as spec;
+ghost use Rattle.ss_logic.specs.Shapes.{class_term};
+ghost use Rattle.ss_logic.specs.Asked as spec;
 ghost use Rattle.ss_rules_asked.specs.Numbers.{arguments_at, HasArguments};
 ghost use Rattle.ss_rules_asked_first.specs.Named.{AreArguments};
 

@@ -2,7 +2,7 @@
 
 ghost use Rattle.std.specs.Prelude.{◌++◌, filter_map, option_map, option_to_list, IfOk, IfSome, OnOk};
 ghost use Rattle.ss_logic.specs.Terms.{terms_from};
-ghost use Rattle.ss_logic_ground.specs.Asked as spec;
+ghost use Rattle.ss_logic.specs.Asked as spec;
 ghost use Rattle.ss_terms.specs.Forms.{term_at, terms_at, HasTerm, HasTerms};
 ghost use Rattle.ss_rules_asked_first.specs.Good.{owner_at, owners_at, HasOwner, HasOwners, IsOwner, AreOwners};
 

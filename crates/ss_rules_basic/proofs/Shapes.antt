@@ -11,8 +11,8 @@ use Rattle.ss_logic.specs.declared.Sort.TheVariants as sort
 use Rattle.ss_logic.specs.Terms.{Number, Null, ClassName, Next, Add, Multiply, Quotient, Remainder, Pair, Term, App, no_terms, term_then, app, terms_from, have_sorts}
 use Rattle.ss_logic.specs.Formulas.{Formula}
 use Rattle.ss_logic.specs.Equal.{same_term, equal_terms, same_term_equal}
-use Rattle.ss_logic_rules.specs.Shapes.{when, number, null_term, next_of, owner_of, equal, at_most, given, all_of, literal_of, class_of_term}
-use Rattle.ss_logic_rules.specs.Rules.{split_of, pairs_agree, stands_beside, division}
+use Rattle.ss_logic.specs.Shapes.{when, number, null_term, next_of, owner_of, equal, at_most, given, all_of, literal_of, class_of_term}
+use Rattle.ss_logic.specs.Rules.{split_of, pairs_agree, stands_beside, division}
 use Rattle.ss_terms.specs.declared.forms.TermId.{TermId}
 use Rattle.ss_terms.specs.Forms.{Forms, terms_at, term_at}
 use Rattle.ss_rules_basic.specs.Arguments.{is_null_term, store_of_next, parts_of}

@@ -1,1 +1,4 @@
 pub mod Arguments
+pub mod Facts
+pub mod Plans
+pub mod Looks

@@ -2,8 +2,8 @@
 
 ghost use Rattle.std.specs.Prelude.{◌≡◌, Some};
 ghost use Rattle.ss_logic.specs.Terms.{App, Number, Null, ClassName, terms_from};
-ghost use Rattle.ss_logic_rules.specs.Shapes.{literal_of, natural, natural_of, class_of_term};
-ghost use Rattle.ss_logic_rules.specs.Rules.{is_class_term, store_before};
+ghost use Rattle.ss_logic.specs.Shapes.{literal_of, natural, natural_of, class_of_term};
+ghost use Rattle.ss_logic.specs.Rules.{is_class_term, store_before};
 ghost use Rattle.ss_terms.specs.Forms.{symbol_of, term_at, terms_at, HasTerm, HasTerms};
 ghost use Rattle.ss_rules_basic.specs.Arguments.{IsTermOf, ArePartsOf, is_null_term, store_of_next, is_pair, parts_of, one_of, two_of};
 

@@ -3,15 +3,15 @@
 ghost use Rattle.std.specs.Prelude.{◌≡◌, List, [], ◌∷◌, IfOk};
 ghost use Rattle.std.specs.List.{list_any};
 ghost use Rattle.ss_core.specs.View as view;
-ghost use Rattle.ss_logic_rules.specs.Shapes.{sub_atom};
-ghost use Rattle.ss_logic_rules.specs.Rules.{class_fact, class_above, class_apart, class_pair, class_up, class_two, stands_beside, are_unrelated, class_of};
+ghost use Rattle.ss_logic.specs.Shapes.{sub_atom};
+ghost use Rattle.ss_logic.specs.Rules.{class_fact, class_above, class_apart, class_pair, class_up, class_two, stands_beside, are_unrelated, class_of};
 ghost use Rattle.ss_terms.specs.Forms.{term_at, terms_at, formula_at, HasTerm, HasTerms, HasFormula, IsGrown, IsBankOf};
 ghost use Rattle.ss_rules_basic.specs.Arguments.{IsInstance};
 
 use crate::arguments::{class_name, is_class};
+use crate::{Claim, Clause, Plan, Slot, fill};
 use ss_core::{Class, ClassId, Classes};
 use ss_logic::Sort;
-use ss_rules_plans::{Claim, Clause, Plan, Slot, fill};
 use ss_terms::{Bank, FormulaId, Predicate, Symbol, TermId};
 use std::alloc::{AllocError, Global};
 
@@ -182,7 +182,7 @@ fn class_names(
     Ok(Some(f))
 }
 
-ghost use Rattle.ss_logic_rules.specs.Shapes.{class_of_term};
+ghost use Rattle.ss_logic.specs.Shapes.{class_of_term};
 
 // The sentence of this number on two class terms.
 fn class_pairs(

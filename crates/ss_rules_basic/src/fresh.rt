@@ -2,13 +2,13 @@
 
 ghost use Rattle.std.specs.Prelude.{◌≡◌, List, [], ◌∷◌, IfOk, option_map};
 ghost use Rattle.ss_core.specs.Tree.{ClassTree};
-ghost use Rattle.ss_logic_rules.specs.Rules.{next_is_new, new_is_grouped, group_is_new, store_before, fresh_of};
+ghost use Rattle.ss_logic.specs.Rules.{next_is_new, new_is_grouped, group_is_new, store_before, fresh_of};
 ghost use Rattle.ss_terms.specs.Forms.{term_at, terms_at, formula_at, HasTerm, HasTerms, HasFormula, IsGrown, IsBankOf};
 ghost use Rattle.ss_rules_basic.specs.Arguments.{IsInstance};
 
 use crate::arguments::before_new;
+use crate::{Claim, Clause, Plan, Slot, fill};
 use ss_logic::Sort;
-use ss_rules_plans::{Claim, Clause, Plan, Slot, fill};
 use ss_terms::{Bank, FormulaId, Predicate, Symbol, TermId};
 use std::alloc::{AllocError, Global};
 

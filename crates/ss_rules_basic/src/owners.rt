@@ -3,14 +3,14 @@
 ghost use Rattle.std.specs.Prelude.{◌≡◌, List, [], ◌∷◌, IfOk};
 ghost use Rattle.ss_core.specs.Tree.{ClassTree};
 ghost use Rattle.ss_logic.specs.Formulas.{neg};
-ghost use Rattle.ss_logic_rules.specs.Shapes.{group};
-ghost use Rattle.ss_logic_rules.specs.Rules.{pairs_agree, split_of};
+ghost use Rattle.ss_logic.specs.Shapes.{group};
+ghost use Rattle.ss_logic.specs.Rules.{pairs_agree, split_of};
 ghost use Rattle.ss_terms.specs.Forms.{term_at, terms_at, formula_at, HasTerm, HasTerms, HasFormula, IsGrown, IsBankOf};
 ghost use Rattle.ss_rules_basic.specs.Arguments.{IsInstance};
 
 use crate::arguments::{is_pair_at, pair_parts};
+use crate::{Claim, Clause, Slot, fill};
 use ss_logic::Sort;
-use ss_rules_plans::{Claim, Clause, Slot, fill};
 use ss_terms::{Bank, FormulaId, Predicate, TermId};
 use std::alloc::{AllocError, Global};
 

@@ -2,13 +2,13 @@
 
 ghost use Rattle.std.specs.Prelude.{◌≡◌, ◌≢◌, ◌-◌, pos, neg_ℤ, unsigned_abs, List, IfOk};
 ghost use Rattle.ss_core.specs.Tree.{ClassTree};
-ghost use Rattle.ss_logic_rules.specs.Rules.{three_ways, two_valued, division, apart_of, bool_of, quorem_of};
+ghost use Rattle.ss_logic.specs.Rules.{three_ways, two_valued, division, apart_of, bool_of, quorem_of};
 ghost use Rattle.ss_terms.specs.Forms.{term_at, terms_at, formula_at, HasTerm, HasTerms, HasFormula, IsGrown, IsBankOf};
 ghost use Rattle.ss_rules_basic.specs.Arguments.{IsInstance};
 
 use crate::arguments::literal;
+use crate::{Claim, Clause, Plan, Slot, fill};
 use ss_logic::Sort;
-use ss_rules_plans::{Claim, Clause, Plan, Slot, fill};
 use ss_terms::{Bank, FormulaId, Predicate, Symbol, TermId};
 use std::alloc::{AllocError, Global};
 

@@ -7,10 +7,10 @@ use Rattle.ss_terms.specs.declared.forms.TermId.{TermId}
 use Rattle.ss_terms.specs.Forms.{Forms, term_at, terms_at}
 use Rattle.ss_logic.specs.Terms.{Term}
 use Rattle.ss_logic.specs.Formulas.{Formula}
-use Rattle.ss_logic_rules.specs.Shapes.{when, natural_of}
-use Rattle.ss_logic_rules.specs.Reads.{Look, look_from, is_look}
-use Rattle.ss_logic_rules.specs.Good.{typed_look, typed_read, typed_of, ready_look, ready_read}
-use Rattle.ss_rules_looks.specs.Looks.{fitting}
+use Rattle.ss_logic.specs.Shapes.{when, natural_of}
+use Rattle.ss_logic.specs.Reads.{Look, look_from, is_look}
+use Rattle.ss_logic.specs.Good.{typed_look, typed_read, typed_of, ready_look, ready_read}
+use Rattle.ss_rules_basic.specs.Looks.{fitting}
 
 some_none : {A : Type 0} (a : A) → Some a ≡ None → ⊥
 some_none a e = cc

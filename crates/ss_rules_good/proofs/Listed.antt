@@ -3,12 +3,12 @@ use Rattle.std.proofs.Common.{◌≡◌, ℕ, zero, suc, ◌+◌, ◌*◌, ◌<�
 use Rattle.std.proofs.lemmas.List.{take_more, map_push}
 use Rattle.ss_core.specs.Tree.{ClassTree}
 use Rattle.ss_logic.specs.Formulas.{Formula}
-use Rattle.ss_logic_rules.specs.Good.{arrays_from}
+use Rattle.ss_logic.specs.Good.{arrays_from}
 use Rattle.ss_terms.specs.declared.forms.FormulaId.{FormulaId}
 use Rattle.ss_terms.specs.declared.forms.TermId.{TermId}
 use Rattle.ss_terms.specs.Forms.{Forms, term_at, formula_at, formulas_at, HasTerm, HasFormula, HasFormulas, IsGrown}
 use Rattle.ss_terms.proofs.Grown.{HasFormulas-grown, formulas_at-grown}
-use Rattle.ss_rules_sentences.proofs.Made.{AreBelow-push}
+use Rattle.ss_rules_basic.proofs.Made.{AreBelow-push}
 use Rattle.ss_rules_good.specs.Fields.{element_of}
 
 arrays_next : (cs : List ClassTree) (k t : ℕ) → k < length cs → arrays_from t (drop k cs) ≡ t ∷ arrays_from (t + 2) (drop (suc k) cs)

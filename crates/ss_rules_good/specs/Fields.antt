@@ -3,8 +3,8 @@ use Rattle.std.specs.Prelude.{ℕ, List, [], ◌∷◌, ◌++◌}
 use Rattle.ss_logic.specs.declared.Sort.TheVariants as sort
 use Rattle.ss_logic.specs.Terms.{Element, Term, app}
 use Rattle.ss_logic.specs.Formulas.{Formula}
-use Rattle.ss_logic_rules.specs.Shapes.{null_term, class_term, type_of, differ, sub_atom, allocated, ready, given}
-use Rattle.ss_logic_rules.specs.Good.{element_typed}
+use Rattle.ss_logic.specs.Shapes.{null_term, class_term, type_of, differ, sub_atom, allocated, ready, given}
+use Rattle.ss_logic.specs.Good.{element_typed}
 
 -- the object is allocated, and of the class
 abbrev pub of_class : ℕ → Term → Term → List Formula

@@ -6,15 +6,15 @@ ghost use Rattle.ss_core.specs.View as view;
 ghost use Rattle.ss_logic.specs.declared.Sort.TheVariants as sort;
 ghost use Rattle.ss_logic.specs.Terms as tree;
 ghost use Rattle.ss_logic.specs.Terms.{app};
-ghost use Rattle.ss_logic_rules.specs.Shapes.{all_of, allocated};
-ghost use Rattle.ss_logic_rules.specs.Good.{arrays_of_references, element_typed, in_range, typed_element};
+ghost use Rattle.ss_logic.specs.Shapes.{all_of, allocated};
+ghost use Rattle.ss_logic.specs.Good.{arrays_of_references, element_typed, in_range, typed_element};
 ghost use Rattle.ss_terms.specs.Forms.{term_at, formula_at, formulas_at, HasTerm, HasFormula, HasFormulas, IsGrown};
 ghost use Rattle.ss_rules_basic.specs.Arguments.{IsInstance};
 ghost use Rattle.ss_rules_good.specs.Fields.{element_of, element_allocated};
 
 use ss_core::Classes;
 use ss_logic::Sort;
-use ss_rules_plans::{Claim, Clause, Plan, Slot, fill};
+use ss_rules_basic::{Claim, Clause, Plan, Slot, fill};
 use ss_terms::{Bank, FormulaId, Predicate, Symbol, TermId};
 use std::alloc::{AllocError, Global};
 

@@ -4,14 +4,15 @@ ghost use Rattle.std.specs.Prelude.{◌≡◌, ◌≤◌, ◌^◌, length, IfOk}
 ghost use Rattle.ss_core.specs.Chain.{most_classes, all_fields};
 ghost use Rattle.ss_core.specs.View as view;
 ghost use Rattle.ss_store_rules.specs.Changes.{field_mark, field_type};
-ghost use Rattle.ss_logic_rules.specs.Good.{is_reference_type, marked, marks_of};
+ghost use Rattle.ss_logic.specs.Good.{is_reference_type, marked, marks_of};
 ghost use Rattle.ss_terms.specs.Forms.{term_at, terms_at, HasTerm, HasTerms, IsGrown, IsBankOf};
 ghost use Rattle.ss_rules_basic.specs.Arguments.{IsInstance};
 
 use ss_core::{Classes, Mark, Ty};
 use ss_logic::Sort;
-use ss_rules_looks::{class_of_field, field_named, mark_of_field, type_of_field};
-use ss_rules_plans::{Claim, Clause, Plan, Slot, fill};
+use ss_rules_basic::{
+    Claim, Clause, Plan, Slot, class_of_field, field_named, fill, mark_of_field, type_of_field,
+};
 use ss_terms::{Bank, FormulaId, Predicate, Symbol, TermId};
 use std::alloc::{AllocError, Global};
 

@@ -3,17 +3,18 @@
 ghost use Rattle.std.specs.Prelude.{◌≡◌, ◌≤◌, ◌^◌, Some, true, length, IfOk};
 ghost use Rattle.ss_core.specs.Chain.{most_classes, all_fields};
 ghost use Rattle.ss_core.specs.View as view;
-ghost use Rattle.ss_logic_rules.specs.Reads.{is_look};
-ghost use Rattle.ss_logic_rules.specs.Good.{ready_look, ready_of, ready_field};
+ghost use Rattle.ss_logic.specs.Reads.{is_look};
+ghost use Rattle.ss_logic.specs.Good.{ready_look, ready_of, ready_field};
 ghost use Rattle.ss_store_rules.specs.Changes.{field_type};
 ghost use Rattle.ss_terms.specs.Forms.{term_at, terms_at, HasTerm, HasTerms, IsGrown, IsBankOf};
 ghost use Rattle.ss_rules_basic.specs.Arguments.{IsInstance};
-ghost use Rattle.ss_rules_looks.specs.Looks.{look_in, HasLook};
+ghost use Rattle.ss_rules_basic.specs.Looks.{look_in, HasLook};
 
 use ss_core::{Classes, Ty};
 use ss_logic::Sort;
-use ss_rules_looks::{Look, class_of_field, read_named, type_of_field};
-use ss_rules_plans::{Claim, Clause, Plan, Slot, fill};
+use ss_rules_basic::{
+    Claim, Clause, Look, Plan, Slot, class_of_field, fill, read_named, type_of_field,
+};
 use ss_terms::{Bank, FormulaId, Predicate, Symbol, TermId};
 use std::alloc::{AllocError, Global};
 
@@ -155,5 +156,5 @@ fn ready_named(
     }
 }
 
-ghost use Rattle.ss_logic_rules.specs.Good as good;
-ghost use Rattle.ss_logic_rules.specs.Reads.{look_from};
+ghost use Rattle.ss_logic.specs.Good as good;
+ghost use Rattle.ss_logic.specs.Reads.{look_from};

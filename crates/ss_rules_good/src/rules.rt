@@ -3,7 +3,7 @@
 ghost use Rattle.std.specs.Prelude.{◌≡◌, ◌≤◌, ◌^◌, length, IfOk};
 ghost use Rattle.ss_core.specs.Chain.{most_classes, all_fields};
 ghost use Rattle.ss_core.specs.View as view;
-ghost use Rattle.ss_logic_rules.specs.GoodRules.{good_sentence, good_instance_of};
+ghost use Rattle.ss_logic.specs.GoodRules.{good_sentence, good_instance_of};
 ghost use Rattle.ss_terms.specs.Forms.{term_at, terms_at, HasTerm, HasTerms, IsGrown, IsBankOf};
 ghost use Rattle.ss_rules_basic.specs.Arguments.{IsInstance};
 
@@ -13,8 +13,7 @@ use crate::owned::owned_rule;
 use crate::ready::ready_rule;
 use crate::typed::typed_rule;
 use ss_core::Classes;
-use ss_logic::Sort;
-use ss_logic_rules::GoodRule;
+use ss_logic::{GoodRule, Sort};
 use ss_terms::{Bank, FormulaId, TermId};
 use std::alloc::{AllocError, Global};
 

@@ -7,20 +7,21 @@ ghost use Rattle.ss_core.specs.View as view;
 ghost use Rattle.ss_logic.specs.declared.Sort.TheVariants as sort;
 ghost use Rattle.ss_logic.specs.Terms as tree;
 ghost use Rattle.ss_logic.specs.Terms.{app};
-ghost use Rattle.ss_logic_rules.specs.Shapes.{class_of_term};
-ghost use Rattle.ss_logic_rules.specs.Reads.{look_from, is_look};
-ghost use Rattle.ss_logic_rules.specs.Good.{arrays_of_references, element_typed, typed_field, typed_element, level_typed, length_typed, typed_look, typed_read, typed_level, owner_allocated, typed_of};
+ghost use Rattle.ss_logic.specs.Shapes.{class_of_term};
+ghost use Rattle.ss_logic.specs.Reads.{look_from, is_look};
+ghost use Rattle.ss_logic.specs.Good.{arrays_of_references, element_typed, typed_field, typed_element, level_typed, length_typed, typed_look, typed_read, typed_level, owner_allocated, typed_of};
 ghost use Rattle.ss_store_rules.specs.Changes.{field_type};
 ghost use Rattle.ss_terms.specs.Forms.{term_at, terms_at, formula_at, HasTerm, HasTerms, HasFormula, HasFormulas, formulas_at, IsGrown, IsBankOf};
 ghost use Rattle.ss_rules_basic.specs.Arguments.{IsInstance};
-ghost use Rattle.ss_rules_looks.specs.Looks.{look_in, HasLook};
+ghost use Rattle.ss_rules_basic.specs.Looks.{look_in, HasLook};
 
 use crate::elements::typed_element_at;
 use ss_core::{Classes, Ty};
 use ss_logic::Sort;
-use ss_rules_basic::{class_name, natural};
-use ss_rules_looks::{Look, class_of_field, read_named, type_of_field};
-use ss_rules_plans::{Claim, Clause, Plan, Slot, fill};
+use ss_rules_basic::{
+    Claim, Clause, Look, Plan, Slot, class_name, class_of_field, fill, natural, read_named,
+    type_of_field,
+};
 use ss_terms::{Bank, FormulaId, Predicate, Symbol, TermId};
 use std::alloc::{AllocError, Global};
 
@@ -54,8 +55,8 @@ fn typed_field_at(
 }
 
 ghost use Rattle.std.specs.Prelude.{ℕ, ◌++◌};
-ghost use Rattle.ss_logic_rules.specs.Shapes.{all_of, class_term, type_of, null_term, sub_atom, allocated, differ, given};
-ghost use Rattle.ss_logic_rules.specs.Good.{field_term, in_range};
+ghost use Rattle.ss_logic.specs.Shapes.{all_of, class_term, type_of, null_term, sub_atom, allocated, differ, given};
+ghost use Rattle.ss_logic.specs.Good.{field_term, in_range};
 ghost use Rattle.ss_rules_good.specs.Fields.{of_class, field_typed};
 
 // A field of whole numbers is in range.
@@ -221,7 +222,7 @@ fn level_named(
     fill(alloc, b, &plans, &[clause])
 }
 
-ghost use Rattle.ss_logic_rules.specs.Good.{level_at};
+ghost use Rattle.ss_logic.specs.Good.{level_at};
 
 // The object of an owner is allocated.
 fn owner_allocated_at(
@@ -316,7 +317,7 @@ fn is_literal(b: &Bank, t: TermId, number: u128) -> bool
     }
 }
 
-ghost use Rattle.ss_logic_rules.specs.Good.{is_number};
+ghost use Rattle.ss_logic.specs.Good.{is_number};
 
 // The rule on a read of two arguments, or a level that is known.
 fn typed_two(

@@ -3,11 +3,11 @@
 ghost use Rattle.std.specs.Prelude.{◌≡◌, IfOk};
 ghost use Rattle.ss_core.specs.Chain.{IsWithinLimits};
 ghost use Rattle.ss_core.specs.View as view;
-ghost use Rattle.ss_logic_rules.specs.GoodRules.{good_instance_of};
+ghost use Rattle.ss_logic.specs.GoodRules.{good_instance_of};
 ghost use Rattle.ss_terms.specs.Forms.{term_at, terms_at, HasTerm, HasTerms, IsFormulaNumber, IsGrown, IsBankOf};
 
 use ss_core::Classes;
-use ss_logic_rules::GoodRule;
+use ss_logic::GoodRule;
 use ss_rules_good::good_sentence_at;
 use ss_terms::{Bank, FormulaId, TermId};
 use std::alloc::{AllocError, Global};

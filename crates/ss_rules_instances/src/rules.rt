@@ -4,12 +4,12 @@ ghost use Rattle.std.specs.Prelude.{◌≡◌, ◌≤◌, ◌^◌, List, length,
 ghost use Rattle.ss_core.specs.Tree.{ClassTree};
 ghost use Rattle.ss_core.specs.Chain.{IsWithinLimits};
 ghost use Rattle.ss_core.specs.View as view;
-ghost use Rattle.ss_logic_rules.specs.Rules.{numbered, fresh_of, class_of, split_of, instance_of};
+ghost use Rattle.ss_logic.specs.Rules.{numbered, fresh_of, class_of, split_of, instance_of};
 ghost use Rattle.ss_terms.specs.Forms.{term_at, terms_at, HasTerm, HasTerms, IsFormulaNumber, IsGrown, IsBankOf};
 ghost use Rattle.ss_rules_basic.specs.Arguments.{IsInstance};
 
 use ss_core::Classes;
-use ss_logic_rules::RuleName;
+use ss_logic::RuleName;
 use ss_rules_basic::{
     apart_rule, bool_rule, class_rule, fresh_rule, natural, quorem_rule, split_rule,
 };

@@ -8,7 +8,7 @@ use Rattle.ss_bit_set.specs.declared.bit_set.BitSet.{BitSet}
 use Rattle.ss_bit_set.specs.Marked.{marked}
 use Rattle.ss_paths.specs.Sets.{put, none}
 use Rattle.ss_logic.specs.Equal.{same_term, same_formula}
-use Rattle.ss_logic_ground.specs.Occurring.{with_formula}
+use Rattle.ss_logic.specs.Occurring.{with_formula}
 use Rattle.ss_terms.specs.declared.forms.TermId.{TermId}
 use Rattle.ss_terms.specs.declared.forms.FormulaId.{FormulaId}
 use Rattle.ss_terms.specs.Forms.{Forms, term_at, terms_at, formula_at, formulas_at, HasTerm, HasTerms, HasFormula, HasFormulas}

@@ -5,7 +5,7 @@ use Rattle.std.proofs.lemmas.List.{map_push, take_more, flat_map_more}
 use Rattle.ss_logic.specs.declared.Sort.{Sort}
 use Rattle.ss_logic.specs.Terms.{Terms}
 use Rattle.ss_logic.specs.Formulas.{Predicate, Formula, Literal, formulas_from}
-use Rattle.ss_logic_ground.specs.Occurring.{with_formula, with_formulas, atoms_in, all_atoms_in, quantified_in, all_quantified_in, literals_in, all_literals_in}
+use Rattle.ss_logic.specs.Occurring.{with_formula, with_formulas, atoms_in, all_atoms_in, quantified_in, all_quantified_in, literals_in, all_literals_in}
 use Rattle.ss_terms.specs.Lists.{SmallVec}
 use Rattle.ss_terms.specs.declared.forms.FormulaId.{FormulaId}
 use Rattle.ss_terms.specs.declared.forms.TermId.{TermId}

@@ -8,7 +8,7 @@ use Rattle.std.proofs.lemmas.List.{map_push, map-append, take_more, reverse-appe
 use Rattle.ss_logic.specs.Terms.{Term, Bound, App, terms_from}
 use Rattle.ss_logic.specs.Formulas.{Formula}
 use Rattle.ss_logic.specs.Equal.{same_term}
-use Rattle.ss_logic_ground.specs.Occurring.{with_term, with_arguments, with_terms_of, with_terms_of_all}
+use Rattle.ss_logic.specs.Occurring.{with_term, with_arguments, with_terms_of, with_terms_of_all}
 use Rattle.ss_terms.specs.Lists.{SmallVec}
 use Rattle.ss_terms.specs.declared.forms.TermId.{TermId}
 use Rattle.ss_terms.specs.declared.forms.FormulaId.{FormulaId}

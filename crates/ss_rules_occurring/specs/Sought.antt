@@ -1,7 +1,7 @@
 -- What is looked for in formulas.
 use Rattle.std.specs.Prelude.{List, [], ◌∷◌, true}
 use Rattle.ss_logic.specs.Formulas.{Formula, Literal}
-use Rattle.ss_logic_ground.specs.Occurring.{with_formula, atoms_in, quantified_in, literals_in}
+use Rattle.ss_logic.specs.Occurring.{with_formula, atoms_in, quantified_in, literals_in}
 use Rattle.ss_rules_occurring.specs.declared.seeking.Sought.{Sought}
 use Rattle.ss_rules_occurring.specs.declared.seeking.Sought.TheVariants as sought
 

@@ -1,7 +1,7 @@
 -- Terms that are walked with a stack.
 use Rattle.std.specs.Prelude.{◌≡◌, ℕ, suc, ◌+◌, ◌<◌, List, ◌∷◌, [], ◌++◌, reverse}
 use Rattle.ss_logic.specs.Terms.{Term, Bound, App, Terms, no_terms, term_then, terms_from}
-use Rattle.ss_logic_ground.specs.Occurring.{with_arguments}
+use Rattle.ss_logic.specs.Occurring.{with_arguments}
 use Rattle.ss_terms.specs.declared.forms.TermId.{TermId}
 use Rattle.ss_terms.specs.Forms.{Forms, term_at, terms_at, HasTerms}
 use Rattle.ss_rules_occurring.specs.declared.found.TermList.{TermList}

@@ -3,7 +3,7 @@
 ghost use Rattle.std.specs.Prelude.{◌≡◌, [], ◌∷◌, ◌++◌, not, if◌then◌else◌, IfOk, OnOk};
 ghost use Rattle.std.specs.List.{list_any};
 ghost use Rattle.ss_logic.specs.Equal.{same_term};
-ghost use Rattle.ss_logic_ground.specs.Occurring.{with_formula};
+ghost use Rattle.ss_logic.specs.Occurring.{with_formula};
 ghost use Rattle.ss_terms.specs.Forms.{formula_at, term_at, HasFormula, HasTerm};
 ghost use Rattle.ss_rules_occurring.specs.Found.{formulas_of, terms_of, HasFound, HasFoundTerms, Holds, HoldsTerms};
 

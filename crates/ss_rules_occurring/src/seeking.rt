@@ -1,8 +1,8 @@
 // Atoms and quantified formulas.
 
 ghost use Rattle.std.specs.Prelude.{◌≡◌, ◌<◌, ◌≤◌, ◌*◌, length, flat_map, IfOk, OnOk};
-ghost use Rattle.ss_logic_ground.specs.Occurring as spec;
-ghost use Rattle.ss_logic_ground.specs.Occurring.{with_formulas};
+ghost use Rattle.ss_logic.specs.Occurring as spec;
+ghost use Rattle.ss_logic.specs.Occurring.{with_formulas};
 ghost use Rattle.ss_terms.specs.Forms.{formula_at, formulas_at, HasFormula, HasFormulas, AreBelow};
 ghost use Rattle.ss_rules_occurring.specs.Found.{formulas_of, HasFound, Holds};
 ghost use Rattle.ss_rules_occurring.specs.Sought as words;

@@ -2,8 +2,8 @@
 
 ghost use Rattle.std.specs.Prelude.{◌≡◌, [], ◌++◌, reverse, IfOk, OnOk};
 ghost use Rattle.ss_logic.specs.Terms.{terms_from};
-ghost use Rattle.ss_logic_ground.specs.Occurring as spec;
-ghost use Rattle.ss_logic_ground.specs.Occurring.{with_arguments, with_terms_of};
+ghost use Rattle.ss_logic.specs.Occurring as spec;
+ghost use Rattle.ss_logic.specs.Occurring.{with_arguments, with_terms_of};
 ghost use Rattle.ss_terms.specs.Forms.{formula_at, formulas_at, terms_at, HasFormula, HasFormulas, HasTerm, HasTerms};
 ghost use Rattle.ss_rules_occurring.specs.Stack.{IsStep};
 ghost use Rattle.ss_rules_occurring.specs.Found.{terms_of, HasFoundTerms, HoldsTerms};

@@ -7,13 +7,13 @@ use Rattle.std.proofs.lemmas.List.{map_push}
 use Rattle.ss_core.specs.Tree.{ClassTree}
 use Rattle.ss_logic.specs.Terms.{Term}
 use Rattle.ss_logic.specs.Formulas.{Formula, Literal, And, Or, Forall, Exists, neg}
-use Rattle.ss_logic_ground.specs.Occurring.{quantified_in, quantified, all_terms}
-use Rattle.ss_logic_ground.specs.Opened.{is_exists}
-use Rattle.ss_logic_origins.specs.Origins as spec
-use Rattle.ss_logic_origins.specs.Starting.{IsStart}
-use Rattle.ss_logic_occurring.proofs.Lists.{contains_head, contains_cons}
-use Rattle.ss_logic_occurring.proofs.Occurring.{from_collected}
-use Rattle.ss_logic_origins.proofs.Starting.{at_first, goes_on}
+use Rattle.ss_logic.specs.Occurring.{quantified_in, quantified, all_terms}
+use Rattle.ss_logic.specs.Opened.{is_exists}
+use Rattle.ss_logic_means.specs.Origins as spec
+use Rattle.ss_logic_means.specs.Starting.{IsStart}
+use Rattle.ss_logic.proofs.Lists.{contains_head, contains_cons}
+use Rattle.ss_logic.proofs.Occurring.{from_collected}
+use Rattle.ss_logic_means.proofs.Starting.{at_first, goes_on}
 use Rattle.ss_terms.specs.declared.forms.FormulaId.{FormulaId}
 use Rattle.ss_terms.specs.Forms.{Forms, terms_at, formula_at, formulas_at, HasTerms, HasFormula, IsFormulaNumber, IsGrown}
 use Rattle.ss_terms.proofs.Grown.{HasFormula-grown, HasTerms-grown, terms_at-grown}

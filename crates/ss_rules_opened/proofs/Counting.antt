@@ -8,8 +8,8 @@ use Rattle.ss_logic.specs.declared.Sort.{Sort}
 use Rattle.ss_logic.specs.Terms.{Term}
 use Rattle.ss_logic.specs.Formulas.{Formula, Formulas, Literal, And, Or, Forall, Exists, no_formulas, formula_then, put, put_all}
 use Rattle.ss_logic.specs.Equal.{same_formula, equal_formulas, same_formula_equal}
-use Rattle.ss_logic_ground.specs.Occurring.{quantified, quantified_in, all_quantified_in, with_formula, with_formulas}
-use Rattle.ss_logic_ground.specs.Opened.{is_exists, replaced, all_replaced, exists_count, all_exists_count, fresh_constants, opened_from, with_opened}
+use Rattle.ss_logic.specs.Occurring.{quantified, quantified_in, all_quantified_in, with_formula, with_formulas}
+use Rattle.ss_logic.specs.Opened.{is_exists, replaced, all_replaced, exists_count, all_exists_count, fresh_constants, opened_from, with_opened}
 use Rattle.ss_rules_opened.specs.Opening.{used_after, list_after}
 
 -- ---- terms in place of bound names leave the number

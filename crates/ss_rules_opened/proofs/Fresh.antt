@@ -5,7 +5,7 @@ use Rattle.std.proofs.Math.Seq.{drop-cons}
 use Rattle.std.proofs.lemmas.List.{append-nil, map_push, map-append}
 use Rattle.ss_logic.specs.declared.Sort.{Sort}
 use Rattle.ss_logic.specs.Terms.{Term}
-use Rattle.ss_logic_ground.specs.Opened.{is_numbered, least_from, fresh_constant, fresh_constants}
+use Rattle.ss_logic.specs.Opened.{is_numbered, least_from, fresh_constant, fresh_constants}
 use Rattle.ss_terms.specs.declared.forms.TermId.{TermId}
 use Rattle.ss_terms.specs.Forms.{Forms, term_at, terms_at, HasTerm, HasTerms, IsGrown}
 use Rattle.ss_terms.proofs.Grown.{HasTerms-grown, terms_at-grown}

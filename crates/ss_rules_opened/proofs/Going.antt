@@ -5,8 +5,8 @@ use Rattle.std.proofs.lemmas.List.{map_push, take_more}
 use Rattle.ss_logic.specs.declared.Sort.{Sort}
 use Rattle.ss_logic.specs.Terms.{Term}
 use Rattle.ss_logic.specs.Formulas.{Formula, Exists, put}
-use Rattle.ss_logic_ground.specs.Occurring.{quantified}
-use Rattle.ss_logic_ground.specs.Opened.{is_exists, exists_count, fresh_constants, replaced}
+use Rattle.ss_logic.specs.Occurring.{quantified}
+use Rattle.ss_logic.specs.Opened.{is_exists, exists_count, fresh_constants, replaced}
 use Rattle.ss_terms.specs.declared.forms.FormulaId.{FormulaId}
 use Rattle.ss_terms.specs.Forms.{Forms, terms_at, formula_at, formulas_at, HasFormula, HasFormulas, IsFormulaNumber}
 use Rattle.ss_rules_opened.specs.declared.opening.Opening.{Opening}

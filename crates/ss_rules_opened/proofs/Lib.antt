@@ -3,3 +3,9 @@ pub mod Fresh
 pub mod Going
 pub mod Replaced
 pub mod Choosing
+pub mod Noting
+pub mod Adding
+pub mod Finding
+pub mod Kept
+pub mod Placed
+pub mod Noted

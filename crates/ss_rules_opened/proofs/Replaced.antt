@@ -3,7 +3,7 @@ use Rattle.std.proofs.Common.{◌≡◌, List, [], ◌∷◌, map, refl, sym, �
 use Rattle.ss_logic.specs.declared.Sort.{Sort}
 use Rattle.ss_logic.specs.Formulas.{Formula, Literal, And, Or, Forall, Exists, formulas_from, formula_then}
 use Rattle.ss_logic.specs.Equal.{same_formula}
-use Rattle.ss_logic_ground.specs.Opened.{replaced, all_replaced}
+use Rattle.ss_logic.specs.Opened.{replaced, all_replaced}
 use Rattle.ss_terms.specs.Lists.{SmallVec}
 use Rattle.ss_terms.specs.declared.forms.FormulaId.{FormulaId}
 use Rattle.ss_terms.specs.declared.forms.Formula.TheVariants.{And as AndForm, Or as OrForm, Forall as ForallForm, Exists as ExistsForm}

@@ -3,9 +3,9 @@ use Rattle.std.specs.Prelude.{List, [], ◌∷◌, ◌++◌, map}
 use Rattle.ss_core.specs.Tree.{ClassTree}
 use Rattle.ss_logic.specs.Terms.{Term}
 use Rattle.ss_logic.specs.Formulas.{Formula, Exists}
-use Rattle.ss_logic_ground.specs.Opened.{fresh_constants}
-use Rattle.ss_logic_origins.specs.Origins as spec
-use Rattle.ss_logic_origins.specs.Starting.{IsStart}
+use Rattle.ss_logic.specs.Opened.{fresh_constants}
+use Rattle.ss_logic_means.specs.Origins as spec
+use Rattle.ss_logic_means.specs.Starting.{IsStart}
 use Rattle.ss_terms.specs.Forms.{Forms, terms_at, formula_at, HasTerms, HasFormula}
 use Rattle.ss_rules_opened.specs.declared.opening.Choice.{Choice}
 

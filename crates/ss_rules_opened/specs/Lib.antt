@@ -1,2 +1,4 @@
 pub mod Choices
 pub mod Opening
+pub mod Views
+pub mod Matches

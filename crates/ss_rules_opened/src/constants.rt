@@ -3,7 +3,7 @@
 ghost use Rattle.std.specs.Prelude.{◌≡◌, [], ◌∷◌, ◌++◌, length, IfOk, OnOk};
 ghost use Rattle.std.specs.List.{list_any};
 ghost use Rattle.ss_logic.specs.Terms as tree;
-ghost use Rattle.ss_logic_ground.specs.Opened as spec;
+ghost use Rattle.ss_logic.specs.Opened as spec;
 ghost use Rattle.ss_terms.specs.Forms.{term_at, terms_at, HasTerm, HasTerms, IsGrown};
 
 use ss_logic::Sort;

@@ -3,8 +3,8 @@
 ghost use Rattle.std.specs.Prelude.{◌≡◌, [], ◌∷◌, ◌++◌, find, map, sum_by, IfOk, OnOk};
 ghost use Rattle.ss_core.specs.View as view;
 ghost use Rattle.ss_logic.specs.Formulas as logic;
-ghost use Rattle.ss_logic_ground.specs.Occurring as occurring;
-ghost use Rattle.ss_logic_ground.specs.Opened as spec;
+ghost use Rattle.ss_logic.specs.Occurring as occurring;
+ghost use Rattle.ss_logic.specs.Opened as spec;
 ghost use Rattle.ss_terms.specs.Forms.{terms_at, formula_at, formulas_at, HasTerms, HasFormula, HasFormulas, IsFormulaNumber, IsGrown, IsBankOf};
 ghost use Rattle.ss_rules_opened.specs.Opening.{used_after, list_after, IsOpened, IsOpening, HasOpening};
 ghost use Rattle.ss_rules_opened.specs.Choices.{choice_of, choices_after, choices_at, HasChoices, StillStart};
@@ -15,7 +15,7 @@ use ss_core::Classes;
 use ss_logic::Sort;
 use ss_rules_occurring::{QuantifiedFormula, quantified};
 use ss_terms::{Bank, Formula, FormulaId, TermId};
-use ss_terms_puts::put;
+use ss_terms_puts::{is_exists, put};
 use std::alloc::{AllocError, Global};
 
 /// The terms that are in use, and the list so far.
@@ -39,16 +39,6 @@ pub struct Choice {
 pub(crate) struct Opened {
     pub(crate) constants: Vec<TermId>,
     pub(crate) body: FormulaId,
-}
-
-fn is_exists(bank: &Bank, f: FormulaId) -> bool
-    requires { HasFormula bank.now f }
-    ensures { result ≡ spec.is_exists (formula_at bank.now f) }
-{
-    match bank.formula_node(f) {
-        Formula::Exists(_, _) => true,
-        _ => false,
-    }
 }
 
 // The first `exists` among formulas.

@@ -2,7 +2,7 @@
 
 ghost use Rattle.std.specs.Prelude.{◌≡◌, ◌≤◌, ◌*◌, length, map, if◌then◌else◌, IfOk};
 ghost use Rattle.ss_logic.specs.Equal.{same_formula};
-ghost use Rattle.ss_logic_ground.specs.Opened as spec;
+ghost use Rattle.ss_logic.specs.Opened as spec;
 ghost use Rattle.ss_terms.specs.Forms.{formula_at, formulas_at, HasFormula, HasFormulas, AreBelow, IsGrown};
 
 use ss_terms::{Bank, Formula, FormulaId, Parts};

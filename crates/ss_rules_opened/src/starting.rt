@@ -3,10 +3,10 @@
 ghost use Rattle.std.specs.Prelude.{◌≡◌, [], ◌∷◌, ◌++◌, map, IfOk};
 ghost use Rattle.ss_core.specs.View as view;
 ghost use Rattle.ss_logic.specs.Formulas.{neg};
-ghost use Rattle.ss_logic_ground.specs.Occurring.{all_terms};
-ghost use Rattle.ss_logic_ground.specs.Opened as spec;
+ghost use Rattle.ss_logic.specs.Occurring.{all_terms};
+ghost use Rattle.ss_logic.specs.Opened as spec;
 ghost use Rattle.ss_logic_means.specs.Sorts.{AreWellFormed};
-ghost use Rattle.ss_logic_origins.specs.Origins.{opened_by, AreAccepted};
+ghost use Rattle.ss_logic_means.specs.Origins.{opened_by, AreAccepted};
 ghost use Rattle.ss_terms.specs.Forms.{terms_at, formula_at, formulas_at, HasTerms, HasFormula, HasFormulas, IsGrown, IsBankOf};
 ghost use Rattle.ss_rules_opened.specs.Choices.{choices_at, HasChoices};
 ghost use Rattle.ss_rules_opened.specs.Opening.{IsOpening};

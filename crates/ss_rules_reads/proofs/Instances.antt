@@ -6,12 +6,12 @@ use Rattle.ss_core.specs.Tree.{ClassTree}
 use Rattle.ss_logic.specs.declared.Sort.TheVariants as sort
 use Rattle.ss_logic.specs.Terms.{Symbol, Constant, Set, Put, Unpack, Pack, Capture, Join, New, NewArray, MakeReady, Term, App, Bound, term_list, terms_from, is_well_sorted}
 use Rattle.ss_logic.specs.Formulas.{Formula}
-use Rattle.ss_logic_rules.specs.Shapes.{when, all_of}
-use Rattle.ss_logic_rules.specs.Reads.{Look, is_look, look_from, reads_a_store, over_change, read_over, read_moved, read_instance, is_constant_store, without_last, last_of}
+use Rattle.ss_logic.specs.Shapes.{when, all_of}
+use Rattle.ss_logic.specs.Reads.{Look, is_look, look_from, reads_a_store, over_change, read_over, read_moved, read_instance, is_constant_store, without_last, last_of}
 use Rattle.ss_terms.specs.declared.forms.TermId.{TermId}
 use Rattle.ss_terms.specs.Forms.{Forms, term_at, terms_at, HasTerm, HasTerms}
 use Rattle.ss_terms.proofs.Sorted.{list_back}
-use Rattle.ss_rules_looks.specs.Looks.{fitting}
+use Rattle.ss_rules_basic.specs.Looks.{fitting}
 use Rattle.ss_rules_reads.specs.Changes.{over_changed}
 
 pub changed_over : (cs : List ClassTree) (look : Look) (f : Symbol) (ts : List Term) → over_changed cs (App f (terms_from ts)) look f ts ≡ over_change cs look f ts

@@ -2,12 +2,12 @@
 use Rattle.std.proofs.Common.{◌≡◌, List, [], ◌∷◌, map, Bool, true, false, refl}
 use Rattle.ss_logic.specs.Equal.{same_term}
 use Rattle.ss_logic.specs.Formulas.{Formula}
-use Rattle.ss_logic_rules.specs.Shapes.{null_term, owner_of}
-use Rattle.ss_logic_rules.specs.Reads.{OwnerLook, over_join}
+use Rattle.ss_logic.specs.Shapes.{null_term, owner_of}
+use Rattle.ss_logic.specs.Reads.{OwnerLook, over_join}
 use Rattle.ss_terms.specs.declared.forms.TermId.{TermId}
 use Rattle.ss_terms.specs.Forms.{Forms, term_at}
-use Rattle.ss_rules_plans.specs.declared.plans.Slot.TheVariants.{Known}
-use Rattle.ss_rules_plans.specs.Plans.{slot_value, clause_at}
+use Rattle.ss_rules_basic.specs.declared.plans.Slot.TheVariants.{Known}
+use Rattle.ss_rules_basic.specs.Plans.{slot_value, clause_at}
 use Rattle.ss_rules_reads.specs.Joined.{joined_clauses}
 
 module _ (b : Forms) (after s o e p : TermId) where

@@ -1,11 +1,11 @@
 -- What is said of an owner where the group of an object was captured, by which terms are one.
 use Rattle.std.specs.Prelude.{List, [], ◌∷◌, ◌++◌, Bool, true, false}
 use Rattle.ss_terms.specs.declared.forms.Predicate.TheVariants.{Equal}
-use Rattle.ss_rules_plans.specs.declared.plans.Slot.{Slot}
-use Rattle.ss_rules_plans.specs.declared.plans.Slot.TheVariants.{Made}
-use Rattle.ss_rules_plans.specs.declared.clauses.Claim.TheVariants.{Is, Not, Group, NoGroup}
-use Rattle.ss_rules_plans.specs.declared.clauses.Clause.{Clause}
-use Rattle.ss_rules_plans.specs.declared.clauses.Clause.TheVariants as clause
+use Rattle.ss_rules_basic.specs.declared.plans.Slot.{Slot}
+use Rattle.ss_rules_basic.specs.declared.plans.Slot.TheVariants.{Made}
+use Rattle.ss_rules_basic.specs.declared.clauses.Claim.TheVariants.{Is, Not, Group, NoGroup}
+use Rattle.ss_rules_basic.specs.declared.clauses.Clause.{Clause}
+use Rattle.ss_rules_basic.specs.declared.clauses.Clause.TheVariants as clause
 use Rattle.ss_rules_reads.specs.Joined.{kept, null_clauses}
 
 -- Plans 0 and 1 are the owner after and before, 2 is the owner of the captured object before, 4 is null and 5 the pair.

@@ -4,8 +4,8 @@ use Rattle.ss_core.specs.Tree.{ClassTree}
 use Rattle.ss_logic.specs.declared.Sort.{Sort}
 use Rattle.ss_logic.specs.Terms.{Symbol, Element, Set, Put, Unpack, Pack, Capture, Join, New, NewArray, MakeReady, Term, app}
 use Rattle.ss_logic.specs.Formulas.{Formula, neg}
-use Rattle.ss_logic_rules.specs.Shapes.{equal, committed, given, where_equal, where_different}
-use Rattle.ss_logic_rules.specs.Reads.{Look, ElementLook, owned_at, same_over, over_set, over_put, over_unpack, over_pack, over_capture, over_join, over_new, over_ready}
+use Rattle.ss_logic.specs.Shapes.{equal, committed, given, where_equal, where_different}
+use Rattle.ss_logic.specs.Reads.{Look, ElementLook, owned_at, same_over, over_set, over_put, over_unpack, over_pack, over_capture, over_join, over_new, over_ready}
 
 -- an element, where one of its sort was put
 abbrev pub element_placed : Term → Term → Term → Term → Term → Sort → Term → Term → List Formula

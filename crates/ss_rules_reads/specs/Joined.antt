@@ -1,12 +1,12 @@
 -- What is said of an owner where two objects were joined, by which terms are one.
 use Rattle.std.specs.Prelude.{List, [], ◌∷◌, ◌++◌, Bool, true, false}
 use Rattle.ss_terms.specs.declared.forms.Predicate.TheVariants.{Equal}
-use Rattle.ss_rules_plans.specs.declared.plans.Slot.{Slot}
-use Rattle.ss_rules_plans.specs.declared.plans.Slot.TheVariants.{Made}
-use Rattle.ss_rules_plans.specs.declared.clauses.Claim.{Claim}
-use Rattle.ss_rules_plans.specs.declared.clauses.Claim.TheVariants.{Is, Not, Group, NoGroup}
-use Rattle.ss_rules_plans.specs.declared.clauses.Clause.{Clause}
-use Rattle.ss_rules_plans.specs.declared.clauses.Clause.TheVariants as clause
+use Rattle.ss_rules_basic.specs.declared.plans.Slot.{Slot}
+use Rattle.ss_rules_basic.specs.declared.plans.Slot.TheVariants.{Made}
+use Rattle.ss_rules_basic.specs.declared.clauses.Claim.{Claim}
+use Rattle.ss_rules_basic.specs.declared.clauses.Claim.TheVariants.{Is, Not, Group, NoGroup}
+use Rattle.ss_rules_basic.specs.declared.clauses.Clause.{Clause}
+use Rattle.ss_rules_basic.specs.declared.clauses.Clause.TheVariants as clause
 
 -- Plans 0 and 1 are the owner after and before, 2 and 3 the owners of the joined object and of the other one before, and 4 is null.
 abbrev pub kept : Claim

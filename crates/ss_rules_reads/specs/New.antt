@@ -2,7 +2,7 @@
 use Rattle.std.specs.Prelude.{List, [], ◌∷◌, ◌++◌, Bool, true, false}
 use Rattle.ss_logic.specs.Terms.{Term}
 use Rattle.ss_logic.specs.Formulas.{Formula, neg}
-use Rattle.ss_logic_rules.specs.Shapes.{next_of, allocated, given, where_equal, where_different}
+use Rattle.ss_logic.specs.Shapes.{next_of, allocated, given, where_equal, where_different}
 
 -- the formula, or its negation
 abbrev pub signed : Bool → Formula → Formula

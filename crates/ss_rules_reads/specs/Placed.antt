@@ -2,14 +2,14 @@
 use Rattle.std.specs.Prelude.{List, [], ◌∷◌, ◌++◌, true}
 use Rattle.ss_logic.specs.Terms.{Term, terms_from}
 use Rattle.ss_logic.specs.Formulas.{Formula, Literal, neg}
-use Rattle.ss_logic_rules.specs.Shapes.{equal, given, where_equal, where_different}
-use Rattle.ss_logic_rules.specs.Reads.{TermLooked, AtomLooked, agreeing}
+use Rattle.ss_logic.specs.Shapes.{equal, given, where_equal, where_different}
+use Rattle.ss_logic.specs.Reads.{TermLooked, AtomLooked, agreeing}
 use Rattle.ss_terms.specs.declared.forms.Predicate.{Predicate}
 use Rattle.ss_terms.specs.Forms.{predicate_of}
-use Rattle.ss_rules_plans.specs.declared.plans.Slot.{Slot}
-use Rattle.ss_rules_plans.specs.declared.plans.Slot.TheVariants.{Made}
-use Rattle.ss_rules_plans.specs.declared.clauses.Claim.{Claim}
-use Rattle.ss_rules_plans.specs.Plans.{claim_at}
+use Rattle.ss_rules_basic.specs.declared.plans.Slot.{Slot}
+use Rattle.ss_rules_basic.specs.declared.plans.Slot.TheVariants.{Made}
+use Rattle.ss_rules_basic.specs.declared.clauses.Claim.{Claim}
+use Rattle.ss_rules_basic.specs.Plans.{claim_at}
 
 -- a read, plan 0, is the value where the two terms are equal, and else as before, plan 1
 abbrev pub placed_by : (Slot → Term) → Slot → Slot → Slot → List Formula

@@ -5,10 +5,10 @@ ghost use Rattle.ss_core.specs.Tree.{ClassTree};
 ghost use Rattle.ss_core.specs.Chain.{above};
 ghost use Rattle.ss_core.specs.View as view;
 ghost use Rattle.ss_logic.specs.Terms as tree;
-ghost use Rattle.ss_logic_rules.specs.Shapes.{all_of};
-ghost use Rattle.ss_logic_rules.specs.Reads.{FieldLook, ElementLook, CommittedLook, leveled, over_set, over_put, over_unpack, over_pack, over_ready};
+ghost use Rattle.ss_logic.specs.Shapes.{all_of};
+ghost use Rattle.ss_logic.specs.Reads.{FieldLook, ElementLook, CommittedLook, leveled, over_set, over_put, over_unpack, over_pack, over_ready};
 ghost use Rattle.ss_terms.specs.Forms.{term_at, formula_at, HasTerm, HasFormula, IsGrown, IsBankOf};
-ghost use Rattle.ss_rules_looks.specs.Looks.{look_in, HasLook};
+ghost use Rattle.ss_rules_basic.specs.Looks.{look_in, HasLook};
 ghost use Rattle.ss_rules_reads.specs.Changes.{element_placed, cleared};
 
 use crate::context::ReadContext;
@@ -16,8 +16,7 @@ use crate::placed::{Places, added_atom, placed_term};
 use crate::same::same_read;
 use ss_core::ClassId;
 use ss_logic::Sort;
-use ss_rules_looks::Look;
-use ss_rules_plans::{Claim, Clause, Plan, Slot, fill};
+use ss_rules_basic::{Claim, Clause, Look, Plan, Slot, fill};
 use ss_terms::{Bank, FormulaId, Predicate, Symbol, TermId};
 use std::alloc::{AllocError, Global};
 

@@ -1,7 +1,7 @@
 // The context in which reads of stores are looked up.
 
 use ss_core::Classes;
-use ss_rules_looks::Look;
+use ss_rules_basic::Look;
 use std::alloc::Global;
 
 /// The classes of a program, and what is read of a store.

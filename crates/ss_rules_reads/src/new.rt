@@ -6,19 +6,17 @@ ghost use Rattle.ss_logic.specs.Equal.{same_term};
 ghost use Rattle.ss_logic.specs.Terms as tree;
 ghost use Rattle.ss_logic.specs.Terms.{app, field_sort};
 ghost use Rattle.ss_logic.specs.Formulas.{neg};
-ghost use Rattle.ss_logic_rules.specs.Shapes.{all_of, next_of, class_term, level_of, differ, committed, ready, where_different};
-ghost use Rattle.ss_logic_rules.specs.Reads.{default_term, same_over, new_at, new_atom, over_new};
+ghost use Rattle.ss_logic.specs.Shapes.{all_of, next_of, class_term, level_of, differ, committed, ready, where_different};
+ghost use Rattle.ss_logic.specs.Reads.{default_term, same_over, new_at, new_atom, over_new};
 ghost use Rattle.ss_terms.specs.Forms.{symbol_of, term_at, formula_at, HasTerm, HasFormula, IsGrown, IsBankOf};
-ghost use Rattle.ss_rules_looks.specs.Looks.{look_in, HasLook};
+ghost use Rattle.ss_rules_basic.specs.Looks.{look_in, HasLook};
 ghost use Rattle.ss_rules_reads.specs.New.{signed, newly_allocated};
 
 use crate::changes::Stores;
 use crate::placed::{Places, added_atom, placed_atom, placed_term};
 use ss_core::Classes;
 use ss_logic::Sort;
-use ss_rules_basic::next_store;
-use ss_rules_looks::Look;
-use ss_rules_plans::{Claim, Clause, Plan, Slot, fill};
+use ss_rules_basic::{Claim, Clause, Look, Plan, Slot, fill, next_store};
 use ss_terms::{Bank, FormulaId, Predicate, Symbol, TermId};
 use std::alloc::{AllocError, Global};
 
@@ -89,7 +87,7 @@ fn new_field(
     placed_term(alloc, b, &plans, places, Slot::Made(3))
 }
 
-ghost use Rattle.ss_logic_rules.specs.Reads.{FieldLook, ElementLook, LevelLook, OwnerLook, CommittedLook, ReadyLook};
+ghost use Rattle.ss_logic.specs.Reads.{FieldLook, ElementLook, LevelLook, OwnerLook, CommittedLook, ReadyLook};
 
 // An element of an array, where there is a new object.
 fn new_element(

@@ -2,18 +2,16 @@
 
 ghost use Rattle.std.specs.Prelude.{◌≡◌, List, [], ◌∷◌, ◌++◌, map, IfOk, OnOk};
 ghost use Rattle.ss_logic.specs.Equal.{same_term};
-ghost use Rattle.ss_logic_rules.specs.Shapes.{all_of, null_term, owner_of};
-ghost use Rattle.ss_logic_rules.specs.Reads.{OwnerLook, over_capture, over_join};
+ghost use Rattle.ss_logic.specs.Shapes.{all_of, null_term, owner_of};
+ghost use Rattle.ss_logic.specs.Reads.{OwnerLook, over_capture, over_join};
 ghost use Rattle.ss_terms.specs.Forms.{term_at, formula_at, HasTerm, HasFormula, IsGrown};
-ghost use Rattle.ss_rules_looks.specs.Looks.{look_in, HasLook};
+ghost use Rattle.ss_rules_basic.specs.Looks.{look_in, HasLook};
 ghost use Rattle.ss_rules_reads.specs.Captured.{captured_clauses, owned_clause, left_clauses};
 ghost use Rattle.ss_rules_reads.specs.Joined.{joined_clauses};
 
 use crate::changes::Stores;
 use crate::same::same_read;
-use ss_rules_basic::is_null;
-use ss_rules_looks::Look;
-use ss_rules_plans::{Claim, Clause, Plan, Slot, fill};
+use ss_rules_basic::{Claim, Clause, Look, Plan, Slot, fill, is_null};
 use ss_terms::{Bank, FormulaId, Predicate, Symbol, TermId};
 use std::alloc::{AllocError, Global};
 

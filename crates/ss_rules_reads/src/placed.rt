@@ -2,12 +2,12 @@
 
 ghost use Rattle.std.specs.Prelude.{◌≡◌, ◌<◌, [], ◌∷◌, ◌++◌, length, IfOk};
 ghost use Rattle.ss_logic.specs.Equal.{same_term};
-ghost use Rattle.ss_logic_rules.specs.Shapes.{all_of};
+ghost use Rattle.ss_logic.specs.Shapes.{all_of};
 ghost use Rattle.ss_rules_reads.specs.Placed.{placed_by, atom_placed_by, added_by};
 ghost use Rattle.ss_terms.specs.Forms.{term_at, formula_at, predicate_of, HasTerm, HasFormula, IsGrown};
-ghost use Rattle.ss_rules_plans.specs.Plans.{slot_value, planned, HasSlot, HasPlans, HasClaim};
+ghost use Rattle.ss_rules_basic.specs.Plans.{slot_value, planned, HasSlot, HasPlans, HasClaim};
 
-use ss_rules_plans::{Claim, Clause, Plan, Slot, fill};
+use ss_rules_basic::{Claim, Clause, Plan, Slot, fill};
 use ss_terms::{Bank, FormulaId, Predicate};
 use std::alloc::{AllocError, Global};
 

@@ -4,11 +4,11 @@ ghost use Rattle.std.specs.Prelude.{◌≡◌, ◌≤◌, ◌^◌, List, [], ◌
 ghost use Rattle.ss_core.specs.Chain.{most_classes, all_fields};
 ghost use Rattle.ss_core.specs.View as view;
 ghost use Rattle.ss_logic.specs.Terms as tree;
-ghost use Rattle.ss_logic_rules.specs.Shapes.{all_of};
-ghost use Rattle.ss_logic_rules.specs.Reads.{look_from, read_over, read_moved, read_instance, is_constant_store, reads_a_store, without_last, last_of};
+ghost use Rattle.ss_logic.specs.Shapes.{all_of};
+ghost use Rattle.ss_logic.specs.Reads.{look_from, read_over, read_moved, read_instance, is_constant_store, reads_a_store, without_last, last_of};
 ghost use Rattle.ss_terms.specs.Forms.{symbol_of, term_at, terms_at, HasTerm, HasTerms, IsGrown, IsBankOf};
 ghost use Rattle.ss_rules_basic.specs.Arguments.{IsInstance};
-ghost use Rattle.ss_rules_looks.specs.Looks.{look_in, HasLook};
+ghost use Rattle.ss_rules_basic.specs.Looks.{look_in, HasLook};
 ghost use Rattle.ss_rules_reads.specs.Changes.{over_changed};
 
 use crate::changes::{
@@ -20,7 +20,7 @@ use crate::owners::{captured_read, joined_read};
 use crate::same::{equal_read, same_read};
 use ss_core::Classes;
 use ss_logic::Sort;
-use ss_rules_looks::{Look, read_named};
+use ss_rules_basic::{Look, read_named};
 use ss_terms::{Bank, FormulaId, Symbol, Term, TermId};
 use std::alloc::{AllocError, Global};
 
@@ -241,7 +241,7 @@ fn over_store(
 }
 
 ghost use Rattle.std.specs.Prelude.{Some, true};
-ghost use Rattle.ss_logic_rules.specs.Reads.{is_look};
+ghost use Rattle.ss_logic.specs.Reads.{is_look};
 
 // Whether the read is one of a store.
 fn looks_at_store(look: Look) -> bool

@@ -1,13 +1,12 @@
 // Reads that give the same over two stores.
 
 ghost use Rattle.std.specs.Prelude.{◌≡◌, [], ◌∷◌, IfOk};
-ghost use Rattle.ss_logic_rules.specs.Shapes.{equal, all_of};
-ghost use Rattle.ss_logic_rules.specs.Reads.{AtomLooked, agreeing, same_over};
+ghost use Rattle.ss_logic.specs.Shapes.{equal, all_of};
+ghost use Rattle.ss_logic.specs.Reads.{AtomLooked, agreeing, same_over};
 ghost use Rattle.ss_terms.specs.Forms.{term_at, formula_at, predicate_of, HasTerm, HasFormula, IsGrown};
-ghost use Rattle.ss_rules_looks.specs.Looks.{atom_of, look_in, HasLook};
+ghost use Rattle.ss_rules_basic.specs.Looks.{atom_of, look_in, HasLook};
 
-use ss_rules_looks::Look;
-use ss_rules_plans::{Claim, Clause, Plan, Slot, fill};
+use ss_rules_basic::{Claim, Clause, Look, Plan, Slot, fill};
 use ss_terms::{Bank, FormulaId, Predicate, Symbol, TermId};
 use std::alloc::{AllocError, Global};
 

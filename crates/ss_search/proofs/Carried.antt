@@ -5,10 +5,10 @@ use Rattle.ss_logic.specs.Formulas.{Formula}
 use Rattle.ss_logic_countermodels.specs.declared.Countermodel.{Countermodel}
 use Rattle.ss_logic_countermodels.specs.Refuting.{Refutes, model_of}
 use Rattle.ss_search_procedure_rules.specs.Closed.{AreEnough}
-use Rattle.ss_search.specs.declared.answers.Options.{Options}
-use Rattle.ss_search.specs.declared.answers.Found.{Found}
-use Rattle.ss_search.specs.declared.answers.Found.TheVariants as found
-use Rattle.ss_search.specs.Found.{IfCountered, IfSpent, IfTooMany, IsRefutedBy, IsShort, IsOver, HasNoModelWithin, IsProvedOrMemory}
+use Rattle.ss_search_answers.specs.declared.answers.Options.{Options}
+use Rattle.ss_search_answers.specs.declared.answers.Found.{Found}
+use Rattle.ss_search_answers.specs.declared.answers.Found.TheVariants as found
+use Rattle.ss_search_answers.specs.Found.{IfCountered, IfSpent, IfTooMany, IsRefutedBy, IsShort, IsOver, HasNoModelWithin, IsProvedOrMemory}
 
 pub countered_with : (r : Found) (P Q : Countermodel → Type 0) → ((m : Countermodel) → P m → Q m) → IfCountered r P → IfCountered r Q
 countered_with (found.Proved d) P Q f h = tt

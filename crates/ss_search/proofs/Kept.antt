@@ -4,8 +4,8 @@ use Rattle.std.specs.Prelude.{◌&&◌, if◌then◌else◌}
 use Rattle.std.proofs.lemmas.Bool.{lt-ltb}
 use Rattle.ss_core.specs.Tree.{ClassTree}
 use Rattle.ss_logic.specs.Formulas.{Formula}
-use Rattle.ss_logic_derivations.specs.Steps.{State, Open, Between, step, run, Derives, Nowhere}
-use Rattle.ss_logic_derivations.specs.Steps as tree
+use Rattle.ss_logic_means.specs.Steps.{State, Open, Between, step, run, Derives, Nowhere}
+use Rattle.ss_logic_means.specs.Steps as tree
 use Rattle.ss_terms.specs.declared.forms.TermId.{TermId}
 use Rattle.ss_terms.specs.Forms.{Forms, HasTerms, IsGrown}
 use Rattle.ss_deriv.specs.declared.line.Line.{Line}

@@ -2,10 +2,8 @@
 //! obligation, and that a budget isn't enough only where it isn't.
 #![tactic(auto)]
 
-mod answers;
 mod refuting;
 mod search;
 
-pub use answers::{Budget, Countered, Found, Options, Undecided, Verdict};
 pub use search::{Search, prove};
-pub use ss_logic_countermodels::Countermodel;
+pub use ss_search_answers::{Budget, Countered, Countermodel, Found, Options, Undecided, Verdict};

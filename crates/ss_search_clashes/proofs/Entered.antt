@@ -1,11 +1,10 @@
 -- Values are entered at their classes one after the other.
-use Rattle.std.proofs.Common.{◌≡◌, ◌≢◌, ℕ, ◌+◌, ◌≤◌, List, [], ◌∷◌, length, true, false, Option, Some, None, refl, sym, ◌∙◌, ap, subst, ◌⊎◌, ⊎_elim, Result, Ok, Err, arith}
+use Rattle.std.proofs.Common.{◌≡◌, ◌≢◌, ℕ, ◌+◌, ◌≤◌, List, [], length, true, false, Option, Some, None, refl, sym, ◌∙◌, ap, subst, ◌⊎◌, ⊎_elim, Result, Ok, Err, arith}
 use Rattle.std.specs.Prelude.{IfOk, OnOk}
 use Rattle.std.proofs.lemmas.Bool.{true≢false, cases_lt}
-use Rattle.ss_logic.specs.Terms.{Symbol, Number, Fixed, Null, ClassName, Constant, Add, Subtract, Multiply, Quotient, Remainder, Field, Element, Length, TypeOf, Level, Owner, Pair, Next, Set, Put, Unpack, Pack, Capture, Join, New, NewArray, MakeReady, Term, App, Terms, term_then, terms_from}
-use Rattle.ss_logic_derivations.specs.Steps.{is_value}
+use Rattle.ss_logic_means.specs.Steps.{is_value}
 use Rattle.ss_terms.specs.declared.forms.TermId.{TermId}
-use Rattle.ss_terms.specs.Forms.{Forms, term_at, terms_at, HasTerm}
+use Rattle.ss_terms.specs.Forms.{Forms, term_at, HasTerm}
 use Rattle.ss_terms.specs.Bank.{number}
 use Rattle.ss_terms.proofs.Same.{term_id}
 use Rattle.ss_equality_rules.specs.Equal.{class_number}
@@ -20,41 +19,6 @@ use Rattle.ss_search_clashes.specs.Values.{IsEntered, AreEntered, AreOneClass}
 pub both_ok : {T E S : Type 0} (r : Result T E) (P Q : T → Type 0) → OnOk r S → IfOk r P → (S → (x : T) → P x → Q x) → IfOk r Q
 both_ok (Ok x) P Q s h f = f s x h
 both_ok (Err e) P Q s h f = tt
-
--- ---- values have no arguments
-
-applied : (f : Symbol) (t : Term) (ts : Terms) → false ≡ is_value (App f (term_then t ts))
-applied (Number n) t ts = refl
-applied (Fixed v) t ts = refl
-applied Null t ts = refl
-applied (ClassName c) t ts = refl
-applied (Constant s k) t ts = refl
-applied Add t ts = refl
-applied Subtract t ts = refl
-applied Multiply t ts = refl
-applied Quotient t ts = refl
-applied Remainder t ts = refl
-applied (Field k) t ts = refl
-applied (Element s) t ts = refl
-applied Length t ts = refl
-applied TypeOf t ts = refl
-applied Level t ts = refl
-applied Owner t ts = refl
-applied Pair t ts = refl
-applied Next t ts = refl
-applied (Set k) t ts = refl
-applied Put t ts = refl
-applied (Unpack c) t ts = refl
-applied (Pack c) t ts = refl
-applied (Capture c) t ts = refl
-applied Join t ts = refl
-applied (New c) t ts = refl
-applied (NewArray c) t ts = refl
-applied MakeReady t ts = refl
-
-pub no_value : (b : Forms) (f : Symbol) (ts : List TermId) → 1 ≤ length ts → false ≡ is_value (App f (terms_from (terms_at b ts)))
-no_value b f [] h = absurd (omega (arith, h))
-no_value b f (t ∷ ts) h = applied f (term_at b t) (terms_from (terms_at b ts))
 
 -- ---- one more term
 

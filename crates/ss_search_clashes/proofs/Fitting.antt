@@ -6,8 +6,8 @@ use Rattle.std.proofs.lemmas.Bool.{true≢false, and_from, eq-eqb}
 use Rattle.ss_logic.specs.Terms.{Symbol, Term, Bound, App, Terms, no_terms, term_then, terms_from}
 use Rattle.ss_logic.specs.Formulas.{Predicate, Equal, Formula, Literal, And, Or, Forall, Exists, neg}
 use Rattle.ss_logic.specs.Equal.{same_predicate, same_formula_equal}
-use Rattle.ss_logic_derivations.specs.Steps.{is_value}
-use Rattle.ss_logic_ground.specs.Occurring.{terms}
+use Rattle.ss_logic_means.specs.Steps.{is_value}
+use Rattle.ss_logic.specs.Occurring.{terms}
 use Rattle.ss_logic_countermodels.specs.Refuting.{same_classes}
 use Rattle.ss_terms.specs.declared.forms.TermId.{TermId}
 use Rattle.ss_terms.specs.declared.forms.FormulaId.{FormulaId}

@@ -8,7 +8,7 @@ use Rattle.std.proofs.lemmas.List.Elements.{Contains-append_cases}
 use Rattle.ss_logic.specs.Terms.{Term, App, Terms, terms_from}
 use Rattle.ss_logic.specs.Formulas.{Predicate, Formula, Literal, And, Or, Forall, Exists, neg}
 use Rattle.ss_logic.proofs.Truth.{neg_neg}
-use Rattle.ss_logic_ground.specs.Occurring.{atoms_in, atoms, terms}
+use Rattle.ss_logic.specs.Occurring.{atoms_in, atoms, terms}
 use Rattle.ss_terms_interned.specs.Interned.{trees_from, tree_at}
 use Rattle.ss_terms.specs.declared.forms.TermId.{TermId}
 use Rattle.ss_terms.specs.declared.forms.FormulaId.{FormulaId}

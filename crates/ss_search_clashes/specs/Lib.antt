@@ -3,3 +3,11 @@ pub mod Says
 pub mod Values
 pub mod Tables
 pub mod Found
+pub mod Closing
+pub mod Leading
+pub mod Ways
+pub mod Legs
+pub mod Needed
+pub mod Said
+pub mod Placed
+pub mod Cases

@@ -4,7 +4,7 @@ use Rattle.std.specs.List.{Contains}
 use Rattle.ss_logic.specs.Terms.{Term, Terms, term_then, no_terms}
 use Rattle.ss_logic.specs.Formulas.{Predicate, Equal, Formula, Literal, And, Or, Forall, Exists, neg}
 use Rattle.ss_logic.specs.Equal.{same_term, same_predicate, same_formula}
-use Rattle.ss_logic_derivations.specs.Steps.{is_value}
+use Rattle.ss_logic_means.specs.Steps.{is_value}
 use Rattle.ss_logic_countermodels.specs.Refuting.{same_classes, place_among}
 use Rattle.ss_terms_interned.specs.Interned.{trees_from}
 use Rattle.ss_terms.specs.declared.forms.TermId.{TermId}

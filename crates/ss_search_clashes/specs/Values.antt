@@ -1,6 +1,6 @@
 -- Values that stand at their classes.
 use Rattle.std.specs.Prelude.{◌≡◌, ◌≢◌, ℕ, ◌<◌, List, true, Some}
-use Rattle.ss_logic_derivations.specs.Steps.{is_value}
+use Rattle.ss_logic_means.specs.Steps.{is_value}
 use Rattle.ss_terms.specs.declared.forms.TermId.{TermId}
 use Rattle.ss_terms.specs.Forms.{Forms, term_at, HasTerm}
 use Rattle.ss_terms.specs.Bank.{number}

@@ -1,9 +1,7 @@
 // Different values in one class.
 
 ghost use Rattle.std.specs.Prelude.{◌≡◌, ◌≢◌, ◌+◌, None, true, IfOk, OnOk, IfSome};
-ghost use Rattle.ss_logic.specs.Terms.{App, no_terms, terms_from};
-ghost use Rattle.ss_logic_derivations.specs.Steps as spec;
-ghost use Rattle.ss_terms.specs.Forms.{symbol_of, term_at, terms_at, HasTerm};
+ghost use Rattle.ss_terms.specs.Forms.{HasTerm};
 ghost use Rattle.ss_equality_rules.specs.Equal.{class_number};
 ghost use Rattle.ss_search_procedure_rules.specs.Clashes.{Classing};
 ghost use Rattle.ss_search_clashes.specs.Numbered.{IsClassing, AreValuesApart};
@@ -12,41 +10,9 @@ ghost use Rattle.ss_search_clashes.specs.Values.{IsEntered, AreEntered, AreOneCl
 
 use crate::says::class;
 use crate::signatures::{Said, Signature, Signatures};
-use ss_terms::{Bank, Symbol, Term, TermId};
+use ss_terms::{Bank, TermId};
+use ss_terms_puts::is_value;
 use std::alloc::{AllocError, Global};
-
-fn is_value_symbol(symbol: Symbol) -> bool
-    ensures { result ≡ spec.is_value (App (symbol_of symbol) no_terms) }
-{
-    match symbol {
-        Symbol::Number(_) => true,
-        Symbol::Fixed(_) => true,
-        Symbol::Null => true,
-        Symbol::ClassName(_) => true,
-        _ => false,
-    }
-}
-
-fn is_value_form(bank: &Bank, symbol: Symbol, ts: &[TermId]) -> bool
-    ensures { result ≡ spec.is_value (App (symbol_of symbol) (terms_from (terms_at bank.now ts.now))) }
-{
-    let _ = bank;
-    match ts {
-        [] => is_value_symbol(symbol),
-        _ => false,
-    }
-}
-
-// Whether a term is a number, a truth value, null or a class name.
-fn is_value(bank: &Bank, t: TermId) -> bool
-    requires { HasTerm bank.now t }
-    ensures { result ≡ spec.is_value (term_at bank.now t) }
-{
-    match bank.term_node(t) {
-        Term::App(symbol, arguments) => is_value_form(bank, *symbol, arguments),
-        Term::Bound(_) => false,
-    }
-}
 
 // The number of another term.
 fn other_than(place: usize, t: TermId) -> Option<TermId>

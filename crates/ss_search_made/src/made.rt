@@ -6,8 +6,7 @@ ghost use Rattle.ss_core.specs.View as view;
 ghost use Rattle.ss_terms.specs.Forms.{HasTerms, HasFormulas, IsGrown, IsBankOf};
 
 use ss_core::Classes;
-use ss_rules_instances::{good_instance, instance};
-use ss_rules_invariants::invariants;
+use ss_rules_instances::{good_instance, instance, invariants};
 use ss_search_facts::{GoodName, RuleKind};
 use ss_search_proof::{good_of, name_of};
 use ss_search_question::{

@@ -5,7 +5,7 @@ use Rattle.std.proofs.lemmas.Bool.{eqb-true, eq-eqb, false≢true}
 use Rattle.std.proofs.lemmas.List.{append-nil, map-append, map_push, drop_more, drop_all, take_more, get_or-set_same, get_or-set_other}
 use Rattle.std.proofs.lemmas.List.Elements.{filter-append}
 use Rattle.ss_logic.specs.Terms.{Term}
-use Rattle.ss_logic_rules.specs.Shapes.{equal}
+use Rattle.ss_logic.specs.Shapes.{equal}
 use Rattle.ss_logic_countermodels.specs.Refuting.{equalities, equalities_of}
 use Rattle.ss_linear.specs.Contradictions.{equality_at, equalities_at, HasPairs}
 use Rattle.ss_terms.specs.declared.forms.TermId.{TermId}

@@ -5,7 +5,7 @@ use Rattle.std.specs.List.{AllByRecursion}
 use Rattle.ss_core.specs.Tree.{ClassTree}
 use Rattle.ss_logic.specs.Terms.{Term}
 use Rattle.ss_logic.specs.Formulas.{Formula}
-use Rattle.ss_logic_sums.specs.Sums.{sum_fact_of}
+use Rattle.ss_logic.specs.Sums.{sum_fact_of}
 use Rattle.ss_linear_rules.specs.Two.{Two}
 use Rattle.ss_linear.specs.Contradictions.{equality_at, equalities_at}
 use Rattle.ss_linear.specs.Met.{Meets, MeetsSome, AllMet, AllSaid, AreMet, Follow}

@@ -1,19 +1,17 @@
--- The model of a candidate refutes, and values have no arguments.
-use Rattle.std.proofs.Common.{◌≡◌, ℕ, ◌≤◌, List, [], ◌∷◌, length, map, Bool, true, false, refl, sym, ◌∙◌, ap, subst, arith}
+-- The model of a candidate refutes.
+use Rattle.std.proofs.Common.{◌≡◌, ℕ, List, [], length, map, Bool, true, false, sym, ◌∙◌, ap, subst}
 use Rattle.std.specs.List.{list_all, slice_index_or}
 use Rattle.std.proofs.lemmas.List.{length-map}
 use Rattle.ss_core.specs.Tree.{ClassTree}
 use Rattle.ss_linear_rules.specs.Two.{Two}
-use Rattle.ss_logic.specs.Terms.{Symbol, Number, Fixed, Null, ClassName, Constant, Add, Subtract, Multiply, Quotient, Remainder, Field, Element, Length, TypeOf, Level, Owner, Pair, Next, Set, Put, Unpack, Pack, Capture, Join, New, NewArray, MakeReady, Term, App, Terms, term_then, terms_from}
+use Rattle.ss_logic.specs.Terms.{Term}
 use Rattle.ss_logic.specs.Formulas.{Formula}
 use Rattle.ss_logic.specs.Equal.{same_term, same_formula}
-use Rattle.ss_logic_derivations.specs.Steps.{is_value}
-use Rattle.ss_logic_ground.specs.Occurring.{terms, with_terms_of_all}
+use Rattle.ss_logic.specs.Occurring.{terms, with_terms_of_all}
 use Rattle.ss_logic_countermodels.specs.Refuting.{Model, Agrees, Refutes, IsCountermodel, comes_out, model_of, place_among, told, is_equal_inside}
 use Rattle.ss_logic_countermodels.specs.declared.Countermodel.{Countermodel}
-use Rattle.ss_terms.specs.declared.forms.TermId.{TermId}
 use Rattle.ss_terms.specs.declared.forms.FormulaId.{FormulaId}
-use Rattle.ss_terms.specs.Forms.{Forms, term_at, terms_at, formula_at, formulas_at}
+use Rattle.ss_terms.specs.Forms.{Forms, term_at, formula_at, formulas_at}
 use Rattle.ss_rules_occurring.specs.Found.{terms_of, formulas_of, Holds, HoldsTerms}
 use Rattle.ss_rules_occurring.proofs.Sought.{holds_itself}
 use Rattle.ss_rules_occurring.proofs.Stacks.{holds_terms_itself}
@@ -23,39 +21,6 @@ use Rattle.ss_search_models.specs.Candidates.{truth_number, class_at, truth_at, 
 use Rattle.ss_search_models.specs.Facts.{facts_in}
 use Rattle.ss_search_models.proofs.Terms.{terms_told}
 use Rattle.ss_search_models.specs.Said.{are_functions_of_classes, are_atoms_of_classes, are_values_apart}
-
-applied : (f : Symbol) (t : Term) (ts : Terms) → false ≡ is_value (App f (term_then t ts))
-applied (Number n) t ts = refl
-applied (Fixed v) t ts = refl
-applied Null t ts = refl
-applied (ClassName c) t ts = refl
-applied (Constant s k) t ts = refl
-applied Add t ts = refl
-applied Subtract t ts = refl
-applied Multiply t ts = refl
-applied Quotient t ts = refl
-applied Remainder t ts = refl
-applied (Field k) t ts = refl
-applied (Element s) t ts = refl
-applied Length t ts = refl
-applied TypeOf t ts = refl
-applied Level t ts = refl
-applied Owner t ts = refl
-applied Pair t ts = refl
-applied Next t ts = refl
-applied (Set k) t ts = refl
-applied Put t ts = refl
-applied (Unpack c) t ts = refl
-applied (Pack c) t ts = refl
-applied (Capture c) t ts = refl
-applied Join t ts = refl
-applied (New c) t ts = refl
-applied (NewArray c) t ts = refl
-applied MakeReady t ts = refl
-
-pub no_value : (b : Forms) (f : Symbol) (ts : List TermId) → 1 ≤ length ts → false ≡ is_value (App f (terms_from (terms_at b ts)))
-no_value b f [] h = absurd (omega arith)
-no_value b f (t ∷ ts) h = applied f (term_at b t) (terms_from (terms_at b ts))
 
 module _ (b : Forms) (c : Candidate) (fs : List Formula) (h : IsFor b c fs) where
   pub agreeing : (r : Bool) →

@@ -8,7 +8,7 @@ use Rattle.std.proofs.lemmas.List.{take_more}
 use Rattle.ss_logic.specs.Terms.{Term, Bound, App, terms_from}
 use Rattle.ss_logic.specs.Formulas.{Formula, Literal, And, Or, Forall, Exists}
 use Rattle.ss_logic.specs.Equal.{same_symbol, same_term, same_predicate, same_term_equal}
-use Rattle.ss_logic_derivations.specs.Steps.{is_value}
+use Rattle.ss_logic_means.specs.Steps.{is_value}
 use Rattle.ss_logic_countermodels.specs.Refuting.{Model, classes_of, same_classes, are_congruent, are_alike, are_apart, implies}
 use Rattle.ss_terms.specs.Lists.{SmallVec}
 use Rattle.ss_terms.specs.declared.forms.TermId.{TermId}

@@ -11,7 +11,7 @@ use Rattle.ss_paths.specs.Sets.{put, none}
 use Rattle.ss_logic.specs.declared.Sort.{Sort}
 use Rattle.ss_logic.specs.Formulas.{Formula, formulas_from}
 use Rattle.ss_logic.specs.Equal.{same_formula, same_formula_equal}
-use Rattle.ss_logic_ground.specs.Occurring.{with_formula, with_formulas}
+use Rattle.ss_logic.specs.Occurring.{with_formula, with_formulas}
 use Rattle.ss_logic_countermodels.specs.Refuting.{told_in, all_told_in}
 use Rattle.ss_terms.specs.Lists.{SmallVec}
 use Rattle.ss_terms.specs.declared.forms.TermId.{TermId}

@@ -6,7 +6,7 @@ use Rattle.std.proofs.lemmas.Bool.{cases_Bool}
 use Rattle.ss_logic.specs.Terms.{Term, Terms}
 use Rattle.ss_logic.specs.Formulas.{Predicate, Formula, Formulas, Literal, And, Or, Forall, Exists, no_formulas, formula_then}
 use Rattle.ss_logic.specs.Equal.{same_formula, equal_formulas}
-use Rattle.ss_logic_ground.specs.Occurring.{with_formula, with_formulas, with_terms_of, with_terms_of_all, atoms_in, all_atoms_in, terms}
+use Rattle.ss_logic.specs.Occurring.{with_formula, with_formulas, with_terms_of, with_terms_of_all, atoms_in, all_atoms_in, terms}
 use Rattle.ss_logic_countermodels.specs.Refuting.{told_in, all_told_in, told}
 
 abbrev literals : List Formula → List Formula

@@ -4,7 +4,7 @@ use Rattle.std.specs.List.{slice_index_or}
 use Rattle.ss_logic.specs.Terms.{Term}
 use Rattle.ss_logic.specs.Formulas.{Formula}
 use Rattle.ss_logic.specs.Equal.{same_term, same_formula}
-use Rattle.ss_logic_ground.specs.Occurring.{terms}
+use Rattle.ss_logic.specs.Occurring.{terms}
 use Rattle.ss_logic_countermodels.specs.Refuting.{Model, place_among, told}
 use Rattle.ss_terms.specs.declared.forms.FormulaId.{FormulaId}
 use Rattle.ss_terms.specs.Forms.{Forms}

@@ -4,7 +4,7 @@ use Rattle.std.specs.List.{list_all}
 use Rattle.std.specs.Bool.{beq}
 use Rattle.ss_logic.specs.Terms.{Term, Bound, App, Terms, no_terms, term_then}
 use Rattle.ss_logic.specs.Formulas.{Formula, Literal, And, Or, Forall, Exists}
-use Rattle.ss_logic_derivations.specs.Steps.{is_value}
+use Rattle.ss_logic_means.specs.Steps.{is_value}
 use Rattle.ss_logic_countermodels.specs.Refuting.{Model, classes_of, are_congruent, are_alike, are_apart, implies}
 use Rattle.ss_terms.specs.declared.forms.TermId.{TermId}
 use Rattle.ss_terms.specs.Forms.{Forms, term_at}

@@ -1,7 +1,7 @@
 // What has a truth value in formulas, each once.
 
 ghost use Rattle.std.specs.Prelude.{◌≡◌, ◌≤◌, ◌*◌, [], length, flat_map, IfOk, OnOk};
-ghost use Rattle.ss_logic_ground.specs.Occurring.{with_formula, with_formulas};
+ghost use Rattle.ss_logic.specs.Occurring.{with_formula, with_formulas};
 ghost use Rattle.ss_logic_countermodels.specs.Refuting as spec;
 ghost use Rattle.ss_logic_countermodels.specs.Refuting.{told_in};
 ghost use Rattle.ss_terms.specs.Forms.{formula_at, formulas_at, HasFormula, HasFormulas, AreBelow};

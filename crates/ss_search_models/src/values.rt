@@ -1,9 +1,7 @@
 // Whether different values have different classes.
 
 ghost use Rattle.std.specs.Prelude.{◌≡◌, true, IfOk, OnOk};
-ghost use Rattle.ss_logic.specs.Terms.{App, no_terms, terms_from};
-ghost use Rattle.ss_logic_derivations.specs.Steps as spec;
-ghost use Rattle.ss_terms.specs.Forms.{symbol_of, term_at, terms_at, HasTerm};
+ghost use Rattle.ss_terms.specs.Forms.{HasTerm};
 ghost use Rattle.ss_rules_occurring.specs.Found.{terms_of};
 ghost use Rattle.ss_search_models.specs.Candidates.{model_at, HasCandidate};
 ghost use Rattle.ss_search_models.specs.Keys.{Keeps};
@@ -11,41 +9,9 @@ ghost use Rattle.ss_search_models.specs.Said.{IsValueSaid, are_values_apart};
 
 use crate::candidate::Candidate;
 use crate::signatures::{Given, Signature, Signatures};
-use ss_terms::{Bank, Symbol, Term, TermId};
+use ss_terms::{Bank, TermId};
+use ss_terms_puts::is_value;
 use std::alloc::{AllocError, Global};
-
-fn is_value_symbol(symbol: Symbol) -> bool
-    ensures { result ≡ spec.is_value (App (symbol_of symbol) no_terms) }
-{
-    match symbol {
-        Symbol::Number(_) => true,
-        Symbol::Fixed(_) => true,
-        Symbol::Null => true,
-        Symbol::ClassName(_) => true,
-        _ => false,
-    }
-}
-
-fn is_value_form(bank: &Bank, symbol: Symbol, ts: &[TermId]) -> bool
-    ensures { result ≡ spec.is_value (App (symbol_of symbol) (terms_from (terms_at bank.now ts.now))) }
-{
-    let _ = bank;
-    match ts {
-        [] => is_value_symbol(symbol),
-        _ => false,
-    }
-}
-
-// Whether a term is a number, a truth value, null or a class name.
-fn is_value(bank: &Bank, t: TermId) -> bool
-    requires { HasTerm bank.now t }
-    ensures { result ≡ spec.is_value (term_at bank.now t) }
-{
-    match bank.term_node(t) {
-        Term::App(symbol, arguments) => is_value_form(bank, *symbol, arguments),
-        Term::Bound(_) => false,
-    }
-}
 
 // Whether no other value stands in the class of the term, where it is a value.
 fn value_agrees(

@@ -8,17 +8,17 @@ use Rattle.ss_logic.specs.declared.Sort.{Sort}
 use Rattle.ss_logic.specs.Terms.{Term}
 use Rattle.ss_logic.specs.Formulas.{Formula, Formulas, Literal, And, Or, Forall, Exists, formula_list, is_well_formed, neg, put}
 use Rattle.ss_logic.proofs.Truth.{neg_neg}
-use Rattle.ss_logic_derivations.specs.Steps as tree
-use Rattle.ss_logic_derivations.specs.Steps.{count_of, chosen, is_literal, is_quantified, is_cut}
+use Rattle.ss_logic_means.specs.Steps as tree
+use Rattle.ss_logic_means.specs.Steps.{count_of, chosen, is_literal, is_quantified, is_cut}
 use Rattle.ss_terms.specs.declared.forms.FormulaId.{FormulaId}
 use Rattle.ss_terms.specs.Forms.{Forms, formula_at, formulas_at, HasFormula}
 use Rattle.ss_terms.proofs.Tested.{neg_formed}
 use Rattle.ss_deriv.specs.declared.line.Line.{Line}
 use Rattle.ss_deriv.specs.declared.line.Line.TheVariants.{Split, Cut, Clash, Case}
 use Rattle.ss_deriv.specs.Lines.{line_of, lines_of}
-use Rattle.ss_search_closing.specs.Closing.{Closes, CloseEach, cases_in_turn}
-use Rattle.ss_search_closing.specs.Leading.{Leads}
-use Rattle.ss_search_closing.proofs.Leading.{stays, goes_on, by_fact, by_part, by_cut, by_denial, by_choice}
+use Rattle.ss_search_clashes.specs.Closing.{Closes, CloseEach, cases_in_turn}
+use Rattle.ss_search_clashes.specs.Leading.{Leads}
+use Rattle.ss_search_clashes.proofs.Leading.{stays, goes_on, by_fact, by_part, by_cut, by_denial, by_choice}
 use Rattle.ss_search_path.specs.declared.path.Path.{Path}
 use Rattle.ss_search_path.specs.declared.path.Mark.{Mark}
 use Rattle.ss_search_path.specs.Paths.{known_on, IsPath, GoesOn, Makes, AreCases, IsMark, IsBack, IsSame, EndsWith, opening, BeginsCase, IsTrial, IsTurned}

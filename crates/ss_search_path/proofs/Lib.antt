@@ -2,3 +2,10 @@ pub mod Lines
 pub mod Making
 pub mod Going
 pub mod Shaping
+pub mod Forms
+pub mod Choosing
+pub mod Missing
+pub mod StandingFacts
+pub mod Steps
+pub mod Reading
+pub mod Longer

@@ -4,9 +4,9 @@ use Rattle.std.specs.Prelude.{Vec}
 use Rattle.std.specs.declared.alloc.Global.{Global}
 use Rattle.std.proofs.lemmas.Bool.{and_from, lt-ltb}
 use Rattle.std.proofs.lemmas.List.{append-nil, map-append, reverse-append, reverse-reverse, take_all, drop_all, take_at, drop_at}
-use Rattle.ss_logic_rules.specs.declared.RuleName.{RuleName}
-use Rattle.ss_logic_rules.specs.declared.GoodRule.{GoodRule}
-use Rattle.ss_logic_derivations.specs.Steps as tree
+use Rattle.ss_logic.specs.declared.RuleName.{RuleName}
+use Rattle.ss_logic.specs.declared.GoodRule.{GoodRule}
+use Rattle.ss_logic_means.specs.Steps as tree
 use Rattle.ss_terms.specs.declared.forms.TermId.{TermId}
 use Rattle.ss_terms.specs.declared.forms.FormulaId.{FormulaId}
 use Rattle.ss_terms.specs.Forms.{Forms, terms_at, formula_at, HasTerms, HasFormula}

@@ -6,19 +6,19 @@ use Rattle.ss_core.specs.Tree.{ClassTree}
 use Rattle.ss_logic.specs.declared.Sort.{Sort}
 use Rattle.ss_logic.specs.Terms.{Term, have_sorts}
 use Rattle.ss_logic.specs.Formulas.{Formula, Literal, And, Or, Forall, Exists, is_well_formed, neg, put}
-use Rattle.ss_logic_rules.specs.declared.RuleName.{RuleName}
-use Rattle.ss_logic_rules.specs.declared.GoodRule.{GoodRule}
-use Rattle.ss_logic_rules.specs.Shapes.{when}
-use Rattle.ss_logic_rules.specs.Rules.{instance_of}
-use Rattle.ss_logic_rules.specs.GoodRules.{good_instance_of}
-use Rattle.ss_logic_rules.proofs.Options.{when_some}
-use Rattle.ss_logic_express.specs.Invariants.{invariants_of}
+use Rattle.ss_logic.specs.declared.RuleName.{RuleName}
+use Rattle.ss_logic.specs.declared.GoodRule.{GoodRule}
+use Rattle.ss_logic.specs.Shapes.{when}
+use Rattle.ss_logic.specs.Rules.{instance_of}
+use Rattle.ss_logic.specs.GoodRules.{good_instance_of}
+use Rattle.ss_logic.proofs.Options.{when_some}
+use Rattle.ss_logic.specs.Invariants.{invariants_of}
 use Rattle.ss_logic_means.specs.Scenes.{AreInvariants}
 use Rattle.ss_logic_means.proofs.Stated as stated
-use Rattle.ss_logic_derivations.specs.Steps.{Premise, Denied, Part, Inst, Choose, Rule, GoodLine, InvariantsLine, part_of, body_at, are_constants, are_new, chosen, choice, good_store}
-use Rattle.ss_logic_instances.proofs.Ruling.{instance_formed}
-use Rattle.ss_logic_instances.proofs.Goods.{good_instance_formed}
-use Rattle.ss_logic_instances.proofs.Putting.{forall_formed, choice_formed, part_formed}
+use Rattle.ss_logic_means.specs.Steps.{Premise, Denied, Part, Inst, Choose, Rule, GoodLine, InvariantsLine, part_of, body_at, are_constants, are_new, chosen, choice, good_store}
+use Rattle.ss_logic_means.proofs.Ruling.{instance_formed}
+use Rattle.ss_logic_means.proofs.Goods.{good_instance_formed}
+use Rattle.ss_logic_means.proofs.Putting.{forall_formed, choice_formed, part_formed}
 use Rattle.ss_terms.proofs.Tested.{neg_formed}
 use Rattle.ss_search_path.specs.Paths.{Makes}
 

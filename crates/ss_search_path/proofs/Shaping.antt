@@ -4,8 +4,8 @@ use Rattle.std.specs.Prelude.{IsSome}
 use Rattle.std.proofs.lemmas.List.{map-append, reverse-append, reverse-reverse}
 use Rattle.ss_core.specs.Tree.{ClassTree}
 use Rattle.ss_logic.specs.Formulas.{Formula}
-use Rattle.ss_logic_rules.proofs.Options.{and_then_some}
-use Rattle.ss_logic_derivations.specs.Steps.{State, Open, Between, Nowhere, step, run, Derives}
+use Rattle.ss_logic.proofs.Options.{and_then_some}
+use Rattle.ss_logic_means.specs.Steps.{State, Open, Between, Nowhere, step, run, Derives}
 use Rattle.ss_terms.specs.Forms.{Forms}
 use Rattle.ss_deriv.specs.declared.line.Line.{Line}
 use Rattle.ss_deriv.specs.declared.line.Line.TheVariants.{Premise, Denied, Part, Split, Cut, Inst, Choose, Rule, Good, Invariants, Chain, Cong, Swap, Sum, Clash, Case}
@@ -13,7 +13,7 @@ use Rattle.ss_deriv.specs.Lines.{is_within, line_in, line_of, lines_of}
 use Rattle.ss_deriv.specs.Shape.{Turn, turn_of, Place, InCase, after, after_all, place_after, IsBegun, IsShaped}
 use Rattle.ss_deriv.specs.Trees.{turn}
 use Rattle.ss_deriv.proofs.Shaped.{Derives-ends}
-use Rattle.ss_search_closing.specs.Closing.{Closes}
+use Rattle.ss_search_clashes.specs.Closing.{Closes}
 use Rattle.ss_search_path.specs.declared.path.Path.{Path}
 use Rattle.ss_search_path.specs.Paths.{known_on, IsPath}
 use Rattle.ss_search_path.proofs.Lines.{lines_append}

@@ -2,15 +2,15 @@
 use Rattle.std.specs.Prelude.{◌≡◌, List, [], ◌∷◌, ◌++◌, length, take, drop, reverse, true, false, Some, Bool, if◌then◌else◌}
 use Rattle.ss_core.specs.Tree.{ClassTree}
 use Rattle.ss_logic.specs.Formulas.{Formula, is_well_formed}
-use Rattle.ss_logic_derivations.specs.Steps as tree
-use Rattle.ss_logic_derivations.specs.Steps.{is_cut, fact_of}
+use Rattle.ss_logic_means.specs.Steps as tree
+use Rattle.ss_logic_means.specs.Steps.{is_cut, fact_of}
 use Rattle.ss_terms.specs.declared.forms.FormulaId.{FormulaId}
 use Rattle.ss_terms.specs.Forms.{Forms, formula_at, formulas_at, HasFormula}
 use Rattle.ss_deriv.specs.declared.line.Line.{Line}
 use Rattle.ss_deriv.specs.declared.line.Line.TheVariants.{Cut, Case}
 use Rattle.ss_deriv.specs.Lines.{lines_of}
-use Rattle.ss_search_closing.specs.Closing.{cases_in_turn, CloseEach}
-use Rattle.ss_search_closing.specs.Leading.{Leads}
+use Rattle.ss_search_clashes.specs.Closing.{cases_in_turn, CloseEach}
+use Rattle.ss_search_clashes.specs.Leading.{Leads}
 use Rattle.ss_search_path.specs.declared.path.Path.{Path}
 use Rattle.ss_search_path.specs.declared.path.Mark.{Mark}
 

@@ -5,11 +5,11 @@ ghost use Rattle.ss_core.specs.Tree.{ClassTree};
 ghost use Rattle.ss_logic.specs.declared.Sort.{Sort};
 ghost use Rattle.ss_logic.specs.Terms.{Term};
 ghost use Rattle.ss_logic.specs.Formulas.{Formula, Formulas, Or, Exists, formula_list, put};
-ghost use Rattle.ss_logic_derivations.specs.Steps.{count_of, chosen};
+ghost use Rattle.ss_logic_means.specs.Steps.{count_of, chosen};
 ghost use Rattle.ss_terms.specs.Forms.{Forms, formula_at};
 ghost use Rattle.ss_deriv.specs.Lines.{lines_of};
 ghost use Rattle.ss_deriv.specs.declared.line.Line.TheVariants.{Case};
-ghost use Rattle.ss_search_closing.specs.Closing.{Closes};
+ghost use Rattle.ss_search_clashes.specs.Closing.{Closes};
 ghost use Rattle.ss_search_path.specs.Paths.{known_on, GoesOn, AreCases};
 
 use crate::path::{Path, pour, push_two};

@@ -5,18 +5,18 @@ ghost use Rattle.ss_core.specs.Tree.{ClassTree};
 ghost use Rattle.ss_logic.specs.declared.Sort.{Sort};
 ghost use Rattle.ss_logic.specs.Terms.{Term, have_sorts};
 ghost use Rattle.ss_logic.specs.Formulas.{Formula, Forall, is_well_formed, neg, put};
-ghost use Rattle.ss_logic_rules.specs.Rules.{instance_of};
-ghost use Rattle.ss_logic_rules.specs.GoodRules.{good_instance_of};
-ghost use Rattle.ss_logic_express.specs.Invariants.{invariants_of};
+ghost use Rattle.ss_logic.specs.Rules.{instance_of};
+ghost use Rattle.ss_logic.specs.GoodRules.{good_instance_of};
+ghost use Rattle.ss_logic.specs.Invariants.{invariants_of};
 ghost use Rattle.ss_logic_means.specs.Scenes.{AreInvariants};
-ghost use Rattle.ss_logic_derivations.specs.Steps.{part_of, good_store, choice};
+ghost use Rattle.ss_logic_means.specs.Steps.{part_of, good_store, choice};
 ghost use Rattle.ss_terms.specs.Forms.{formula_at, terms_at, HasFormula, HasTerms};
 ghost use Rattle.ss_deriv.specs.Lines.{line_of};
 ghost use Rattle.ss_search_path.specs.Paths.{known_on, GoesOn, Makes};
 
 use crate::path::Path;
 use ss_deriv::Line;
-use ss_logic_rules::{GoodRule, RuleName};
+use ss_logic::{GoodRule, RuleName};
 use ss_terms::{Bank, FormulaId, TermId};
 use std::alloc::AllocError;
 

@@ -3,12 +3,12 @@
 ghost use Rattle.std.specs.Prelude.{◌≡◌, ◌++◌, [], List, reverse, true, Some, IfOk};
 ghost use Rattle.ss_core.specs.Tree.{ClassTree};
 ghost use Rattle.ss_logic.specs.Formulas.{Formula};
-ghost use Rattle.ss_logic_derivations.specs.Steps.{Derives};
+ghost use Rattle.ss_logic_means.specs.Steps.{Derives};
 ghost use Rattle.ss_terms.specs.Forms.{Forms};
 ghost use Rattle.ss_deriv.specs.declared.line.Line.{Line};
 ghost use Rattle.ss_deriv.specs.Shape.{IsBegun, IsShaped};
 ghost use Rattle.ss_deriv.specs.Lines.{lines_of};
-ghost use Rattle.ss_search_closing.specs.Closing.{Closes};
+ghost use Rattle.ss_search_clashes.specs.Closing.{Closes};
 ghost use Rattle.ss_search_path.specs.Paths.{known_on, IsPath};
 
 use crate::path::{Path, pour};

@@ -4,13 +4,13 @@ ghost use Rattle.std.specs.Prelude.{◌≡◌, ◌++◌, ◌∷◌, ◌||◌, []
 ghost use Rattle.ss_core.specs.Tree.{ClassTree};
 ghost use Rattle.ss_logic.specs.Formulas as logic;
 ghost use Rattle.ss_logic.specs.Formulas.{is_well_formed, neg};
-ghost use Rattle.ss_logic_derivations.specs.Steps as tree;
-ghost use Rattle.ss_logic_derivations.specs.Steps.{is_literal, is_quantified};
+ghost use Rattle.ss_logic_means.specs.Steps as tree;
+ghost use Rattle.ss_logic_means.specs.Steps.{is_literal, is_quantified};
 ghost use Rattle.ss_terms.specs.declared.forms.FormulaId.{FormulaId};
 ghost use Rattle.ss_terms.specs.Forms.{Forms, formula_at, HasFormula};
 ghost use Rattle.ss_deriv.specs.declared.line.Line.TheVariants.{Case};
 ghost use Rattle.ss_deriv.specs.Lines.{lines_of};
-ghost use Rattle.ss_search_closing.specs.Closing.{Closes};
+ghost use Rattle.ss_search_clashes.specs.Closing.{Closes};
 ghost use Rattle.ss_search_path.specs.declared.path.Path.{Path};
 ghost use Rattle.ss_search_path.specs.Paths.{known_on, opening, GoesOn, IsMark, IsBack, EndsWith, BeginsCase, IsSupposed, IsTrial, IsTurned};
 

@@ -11,7 +11,7 @@ use Rattle.ss_logic_countermodels.specs.Refuting.{told_in, all_told_in}
 use Rattle.ss_terms.specs.declared.forms.FormulaId.{FormulaId}
 use Rattle.ss_terms.specs.Forms.{formula_at, formulas_at}
 use Rattle.ss_deriv.specs.declared.line.Line.{Line}
-use Rattle.ss_logic_occurring.specs.Includes.{Includes}
+use Rattle.ss_logic.specs.Includes.{Includes}
 use Rattle.ss_search_procedure_rules.specs.Closed.{IsTotal}
 use Rattle.ss_search_procedure_rules.proofs.Lists.{contains_head, contains_cons, contains_none, contains_split}
 use Rattle.ss_search_procedure_rules.proofs.Occurring.{from_collected, to_collected}

@@ -5,7 +5,7 @@ use Rattle.std.proofs.Math.Nat.{eq-or-lt_of_le}
 use Rattle.ss_core.specs.Tree.{ClassTree}
 use Rattle.ss_logic.specs.Formulas.{Formula}
 use Rattle.ss_logic_countermodels.specs.Refuting.{told}
-use Rattle.ss_logic_occurring.specs.Includes.{Includes}
+use Rattle.ss_logic.specs.Includes.{Includes}
 use Rattle.ss_search_procedure_rules.specs.Closed.{Closed, at_once, StaysOpen, AreEnough}
 use Rattle.ss_search_procedure_rules.proofs.Open.{closed_deeper, open_isn't_closed}
 use Rattle.ss_logic_countermodels.specs.declared.Countermodel.{Countermodel}

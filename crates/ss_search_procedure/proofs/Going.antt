@@ -10,8 +10,8 @@ use Rattle.ss_logic_countermodels.specs.Refuting.{told_in, all_told_in}
 use Rattle.ss_terms.specs.Forms.{formula_at}
 use Rattle.ss_deriv.specs.declared.line.Line.{Line}
 use Rattle.ss_deriv.specs.Lines.{lines_of}
-use Rattle.ss_search_closing.specs.Closing.{Closes}
-use Rattle.ss_logic_occurring.specs.Includes.{Includes}
+use Rattle.ss_search_clashes.specs.Closing.{Closes}
+use Rattle.ss_logic.specs.Includes.{Includes}
 use Rattle.ss_search_procedure_rules.proofs.Lists.{contains_none, contains_split}
 use Rattle.ss_search_procedure_rules.proofs.Occurring.{from_collected}
 use Rattle.ss_search_path.proofs.Going.{goes_nowhere, goes_through, path_goes}

@@ -6,4 +6,9 @@ pub mod Tried
 pub mod Deciding
 pub mod Limits
 pub mod Enough
-pub mod Beginning
+pub mod GroundBegun
+pub mod Accepting
+pub mod Sources
+pub mod Saying
+pub mod Begins
+pub mod Told

@@ -5,7 +5,7 @@ use Rattle.std.proofs.lemmas.List.Elements.{Contains-append_cases}
 use Rattle.ss_core.specs.Tree.{ClassTree}
 use Rattle.ss_logic.specs.Formulas.{Formula, Formulas, Literal, And, Or, Forall, Exists, no_formulas, formula_then, is_well_formed, neg}
 use Rattle.ss_logic.proofs.Truth.{neg_neg}
-use Rattle.ss_logic_derivations.specs.Steps.{is_literal, is_quantified}
+use Rattle.ss_logic_means.specs.Steps.{is_literal, is_quantified}
 use Rattle.ss_logic_countermodels.specs.Refuting.{told_in, all_told_in}
 use Rattle.ss_terms.proofs.Tested.{neg_formed}
 use Rattle.ss_search_procedure_rules.proofs.Lists.{contains_none, contains_split}

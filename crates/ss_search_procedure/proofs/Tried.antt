@@ -8,7 +8,7 @@ use Rattle.ss_logic.specs.Formulas.{Formula, neg}
 use Rattle.ss_logic.proofs.Truth.{neg_neg}
 use Rattle.ss_terms.specs.declared.forms.FormulaId.{FormulaId}
 use Rattle.ss_terms.specs.Forms.{Forms, formula_at, formulas_at}
-use Rattle.ss_logic_occurring.specs.Includes.{Includes}
+use Rattle.ss_logic.specs.Includes.{Includes}
 use Rattle.ss_search_procedure_rules.specs.Closed.{IsSaturated, StaysOpen}
 use Rattle.ss_search_procedure_rules.proofs.Lists.{contains_none, contains_split}
 use Rattle.ss_search_procedure_rules.proofs.Open.{open_isn't_closed}

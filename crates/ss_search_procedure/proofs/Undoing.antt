@@ -4,14 +4,14 @@ use Rattle.std.specs.Prelude.{slice_get}
 use Rattle.std.proofs.lemmas.List.{length-map, map_push, length_push}
 use Rattle.ss_core.specs.Tree.{ClassTree}
 use Rattle.ss_logic.specs.Formulas.{Formula, is_well_formed}
-use Rattle.ss_logic_derivations.specs.Steps.{is_cut}
+use Rattle.ss_logic_means.specs.Steps.{is_cut}
 use Rattle.ss_terms.specs.declared.forms.FormulaId.{FormulaId}
 use Rattle.ss_terms.specs.Forms.{Forms, formula_at, formulas_at, HasFormula}
 use Rattle.ss_equality_rules.specs.declared.Merge.{Merge}
 use Rattle.ss_deriv.specs.declared.line.Line.{Line}
 use Rattle.ss_deriv.specs.Lines.{lines_of}
-use Rattle.ss_search_closing.specs.Closing.{Closes}
-use Rattle.ss_search_equating.specs.Said.{AreKnown}
+use Rattle.ss_search_clashes.specs.Closing.{Closes}
+use Rattle.ss_search_clashes.specs.Said.{AreKnown}
 use Rattle.ss_search_path.specs.declared.path.Path.{Path}
 use Rattle.ss_search_path.specs.Paths as paths
 use Rattle.ss_search_path.specs.Paths.{known_on, opening, IsMark, IsSame, IsBack, IsSupposed, IsTrial}
@@ -20,10 +20,10 @@ use Rattle.ss_search_procedure_rules.specs.Closed.{OccursIn}
 use Rattle.ss_search_reached.specs.Known.{merges_at}
 use Rattle.ss_search_reached.proofs.Fronts.{front_itself, front_push}
 use Rattle.ss_search_reached.proofs.Kept.{at_now}
-use Rattle.ss_search_standing.specs.declared.standing.Standing.{Standing}
-use Rattle.ss_search_standing.specs.Standing.{AreStanding}
-use Rattle.ss_search_standing.proofs.Facts.{known_more, longer_standing}
-use Rattle.ss_search_refuting.proofs.Shown.{merges_longer}
+use Rattle.ss_search_path.specs.declared.standing.Standing.{Standing}
+use Rattle.ss_search_path.specs.Standing.{AreStanding}
+use Rattle.ss_search_path.proofs.StandingFacts.{known_more, longer_standing}
+use Rattle.ss_search_path.proofs.Longer.{merges_longer}
 use Rattle.ss_search_reaching.specs.declared.reaching.Reaching.{Reaching}
 use Rattle.ss_search_reaching.specs.declared.reaching.Marks.{Marks}
 use Rattle.ss_search_reaching.specs.Reaching.{facts_of, IsReaching, Shows, Grows}

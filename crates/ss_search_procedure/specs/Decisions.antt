@@ -8,12 +8,12 @@ use Rattle.ss_terms.specs.declared.forms.FormulaId.{FormulaId}
 use Rattle.ss_terms.specs.Forms.{Forms, formula_at, formulas_at, HasFormula, HasFormulas, IsBankOf}
 use Rattle.ss_deriv.specs.declared.line.Line.{Line}
 use Rattle.ss_deriv.specs.Lines.{lines_of}
-use Rattle.ss_search_closing.specs.Closing.{Closes}
+use Rattle.ss_search_clashes.specs.Closing.{Closes}
 use Rattle.ss_search_path.specs.declared.path.Path.{Path}
 use Rattle.ss_search_path.specs.Paths.{EndsWith, IsMark, IsPath, IsSupposed}
-use Rattle.ss_logic_occurring.specs.Includes.{Includes}
+use Rattle.ss_logic.specs.Includes.{Includes}
 use Rattle.ss_search_procedure_rules.specs.Closed.{OccursIn, Closed}
-use Rattle.ss_search_standing.specs.Standing.{IsGiven}
+use Rattle.ss_search_path.specs.Standing.{IsGiven}
 use Rattle.ss_search_reaching.specs.declared.reaching.Reaching.{Reaching}
 use Rattle.ss_search_reaching.specs.declared.reaching.Marks.{Marks}
 use Rattle.ss_search_reaching.specs.Reaching.{facts_of, reached_of, IsReaching, Shows, Grows, ReachesOn}

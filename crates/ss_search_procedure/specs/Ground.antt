@@ -5,9 +5,9 @@ use Rattle.ss_logic.specs.Formulas.{Formula}
 use Rattle.ss_logic_means.specs.Scenes.{AreInvariants}
 use Rattle.ss_logic_means.specs.Sorts.{AreWellFormed}
 use Rattle.ss_terms.specs.Forms.{Forms, formulas_at, HasFormulas}
-use Rattle.ss_rules_ground.specs.declared.form.Grounded.{Grounded}
-use Rattle.ss_rules_ground.specs.Grounds.{IsGrounded}
-use Rattle.ss_logic_occurring.specs.Includes.{Includes}
+use Rattle.ss_rules.specs.declared.form.Grounded.{Grounded}
+use Rattle.ss_rules.specs.Grounds.{IsGrounded}
+use Rattle.ss_logic.specs.Includes.{Includes}
 use Rattle.ss_search_reaching.specs.declared.reaching.Reaching.{Reaching}
 use Rattle.ss_search_reaching.specs.Reaching.{IsReaching}
 use Rattle.ss_search_procedure.specs.declared.setting.Settling.{Settling}

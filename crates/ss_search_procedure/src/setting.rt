@@ -1,6 +1,6 @@
 // What is settled.
 
-use ss_search_standing::Given;
+use ss_search_path::Given;
 use ss_terms::FormulaId;
 
 /// Formulas of a bank with what they come from, and the atoms and quantified formulas that occur in them.

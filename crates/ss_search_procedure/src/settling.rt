@@ -3,11 +3,11 @@
 ghost use Rattle.std.specs.Prelude.{◌≡◌, [], ℕ, ◌≤◌, ◌<◌, ◌*◌, ◌^◌, List, length, IfOk};
 ghost use Rattle.ss_core.specs.Tree.{ClassTree};
 ghost use Rattle.ss_logic.specs.Formulas.{Formula};
-ghost use Rattle.ss_logic_derivations.specs.Steps.{Derives};
+ghost use Rattle.ss_logic_means.specs.Steps.{Derives};
 ghost use Rattle.ss_logic_countermodels.specs.Refuting.{IsCountermodel};
 ghost use Rattle.ss_terms.specs.Forms.{IsBankOf};
 ghost use Rattle.ss_deriv.specs.Lines.{lines_of};
-ghost use Rattle.ss_search_closing.specs.Closing.{Closes};
+ghost use Rattle.ss_search_clashes.specs.Closing.{Closes};
 ghost use Rattle.ss_search_path.specs.Paths.{IsPath};
 ghost use Rattle.ss_search_procedure_rules.specs.Closed.{AreEnough};
 ghost use Rattle.ss_search_reaching.specs.Reaching.{facts_of};

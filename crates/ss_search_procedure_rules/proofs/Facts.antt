@@ -10,11 +10,11 @@ use Rattle.ss_logic.specs.Terms.{Term, Bound, App, Terms, no_terms, term_then}
 use Rattle.ss_logic.specs.Formulas.{Formula, Literal, And, Or, Forall, Exists, neg}
 use Rattle.ss_logic.specs.Equal.{same_term, same_term_equal}
 use Rattle.ss_logic.proofs.Truth.{neg_neg}
-use Rattle.ss_logic_rules.specs.Shapes.{equal}
+use Rattle.ss_logic.specs.Shapes.{equal}
 use Rattle.ss_linear_rules.specs.Two.{Two}
-use Rattle.ss_logic_ground.specs.Occurring.{with_term, with_arguments, with_terms_of, with_terms_of_all, atoms, terms}
+use Rattle.ss_logic.specs.Occurring.{with_term, with_arguments, with_terms_of, with_terms_of_all, atoms, terms}
 use Rattle.ss_logic_countermodels.specs.Refuting.{Model, Refutes, told_in, told, as_told, is_whole, equalities_of, equalities, facts_of}
-use Rattle.ss_logic_occurring.specs.Includes.{Includes}
+use Rattle.ss_logic.specs.Includes.{Includes}
 use Rattle.ss_search_procedure_rules.specs.Clashes.{Classing, model_by, FitsClasses}
 use Rattle.ss_search_procedure_rules.proofs.Lists.{contains_head, contains_cons, contains_split, contains_none, map_from, from_filter, any_from}
 use Rattle.ss_search_procedure_rules.proofs.Occurring.{from_collected}

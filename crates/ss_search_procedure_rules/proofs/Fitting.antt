@@ -8,8 +8,8 @@ use Rattle.ss_logic.specs.Terms.{Term, Bound, App, Terms, no_terms, term_then}
 use Rattle.ss_logic.specs.Formulas.{Predicate, Predicate-discrete, Equal, Formula, Literal, And, Or, Forall, Exists, neg}
 use Rattle.ss_logic.specs.Equal.{same_term, same_term_equal, same_symbol, equal_symbols, same_predicate, equal_predicates, answer_from, same_formula, equal_formulas, same_formula_equal}
 use Rattle.ss_logic.proofs.Truth.{neg_neg}
-use Rattle.ss_logic_derivations.specs.Steps.{is_value}
-use Rattle.ss_logic_ground.specs.Occurring.{terms}
+use Rattle.ss_logic_means.specs.Steps.{is_value}
+use Rattle.ss_logic.specs.Occurring.{terms}
 use Rattle.ss_logic_countermodels.specs.Refuting.{Model, Agrees, comes_out, told, classes_of, same_classes, are_congruent, are_alike, are_apart, is_equal_inside, implies}
 use Rattle.ss_search_procedure_rules.specs.Closed.{Fits}
 use Rattle.ss_search_procedure_rules.specs.Clashes.{Classing, classes_in, is_said_by, atom_by, model_by, FitsClasses}

@@ -6,9 +6,9 @@ use Rattle.std.specs.List.{AllByRecursion}
 use Rattle.std.proofs.lemmas.Option.{slice_get-get_or, slice_get_within, slice_get_past, get_or_from_slice_get}
 use Rattle.ss_core.specs.Tree.{ClassTree}
 use Rattle.ss_logic.specs.Formulas.{Formula}
-use Rattle.ss_logic_sums.specs.Sums.{LinearSum, number_sum, sum_fact_of, add_weighted, weighted, bounded}
+use Rattle.ss_logic.specs.Sums.{LinearSum, number_sum, sum_fact_of, add_weighted, weighted, bounded}
 use Rattle.ss_linear_rules.specs.Two.{IsDifferenceAt, IsUnit, Two}
-use Rattle.ss_logic_occurring.specs.Includes.{Includes}
+use Rattle.ss_logic.specs.Includes.{Includes}
 
 and_then_agree : {A B : Type 0} (f g : A → Option B) → ((x : A) → f x ≡ g x) → (o : Option A) → option_and_then f o ≡ option_and_then g o
 and_then_agree f g h None = refl

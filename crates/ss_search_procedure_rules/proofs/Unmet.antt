@@ -9,9 +9,9 @@ use Rattle.ss_core.specs.Tree.{ClassTree}
 use Rattle.ss_logic.specs.Formulas.{Formula, Formulas, Literal, And, Or, Forall, Exists, no_formulas, formula_then, formula_list, neg, neg_all}
 use Rattle.ss_logic.specs.Equal.{same_formula, same_formula_equal}
 use Rattle.ss_logic.proofs.Truth.{neg_neg}
-use Rattle.ss_logic_ground.specs.Occurring.{with_formula, with_formulas, with_terms_of_all, atoms_in, all_atoms_in, atoms, terms}
+use Rattle.ss_logic.specs.Occurring.{with_formula, with_formulas, with_terms_of_all, atoms_in, all_atoms_in, atoms, terms}
 use Rattle.ss_logic_countermodels.specs.Refuting.{Model, Refutes, comes_out, all_come_true, some_comes_true, told_in, all_told_in, told, as_told, is_whole, equalities, facts_of}
-use Rattle.ss_logic_occurring.specs.Includes.{Includes}
+use Rattle.ss_logic.specs.Includes.{Includes}
 use Rattle.ss_search_procedure_rules.specs.Closed.{is_basic, basics, IsSaturated, IsTotal, Closed}
 use Rattle.ss_search_procedure_rules.proofs.Lists.{contains_head, contains_cons, contains_split, contains_none, contains_filter, from_filter, map_from, map_to, map_of_fewer, all_at, all_from, any_from, flat_from, flat_to}
 use Rattle.ss_search_procedure_rules.proofs.Occurring.{from_collected, to_collected}

@@ -4,8 +4,8 @@ use Rattle.std.specs.List.{Contains, list_any}
 use Rattle.ss_logic.specs.Terms.{Symbol, Term, App, Terms, no_terms, term_then, term_list}
 use Rattle.ss_logic.specs.Formulas.{Predicate, Equal, Formula, Literal, neg}
 use Rattle.ss_logic.specs.Equal.{same_predicate, same_formula}
-use Rattle.ss_logic_derivations.specs.Steps.{is_value}
-use Rattle.ss_logic_ground.specs.Occurring.{terms}
+use Rattle.ss_logic_means.specs.Steps.{is_value}
+use Rattle.ss_logic.specs.Occurring.{terms}
 use Rattle.ss_logic_countermodels.specs.Refuting.{Model, same_classes}
 use Rattle.ss_search_procedure_rules.specs.Closed.{is_basic}
 

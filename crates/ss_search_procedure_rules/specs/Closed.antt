@@ -2,9 +2,9 @@
 use Rattle.std.specs.Prelude.{ℕ, zero, suc, ◌*◌, ◌^◌, ◌<◌, ◌≤◌, ◌⊎◌, List, ◌∷◌, length, filter, Bool, ◌||◌}
 use Rattle.std.specs.List.{Contains}
 use Rattle.ss_logic.specs.Formulas.{Formula, Formulas, Literal, And, Or, Forall, Exists, no_formulas, formula_then, formula_list, neg}
-use Rattle.ss_logic_derivations.specs.Steps.{is_literal, is_quantified}
+use Rattle.ss_logic_means.specs.Steps.{is_literal, is_quantified}
 use Rattle.ss_core.specs.Tree.{ClassTree}
-use Rattle.ss_logic_occurring.specs.Includes.{Includes}
+use Rattle.ss_logic.specs.Includes.{Includes}
 use Rattle.ss_logic_countermodels.specs.Refuting.{Model, Agrees, Refutes, told_in, told}
 
 -- ---- what may hold beside known literals

@@ -5,12 +5,12 @@ ghost use Rattle.std.specs.List.{Contains};
 ghost use Rattle.ss_core.specs.Tree.{ClassTree};
 ghost use Rattle.ss_logic.specs.Terms.{Term};
 ghost use Rattle.ss_logic.specs.Formulas.{Formula};
-ghost use Rattle.ss_logic_rules.specs.Shapes.{equal};
+ghost use Rattle.ss_logic.specs.Shapes.{equal};
 ghost use Rattle.ss_linear_rules.specs.Two.{Two};
-ghost use Rattle.ss_logic_ground.specs.Occurring.{terms};
+ghost use Rattle.ss_logic.specs.Occurring.{terms};
 ghost use Rattle.ss_logic_countermodels.specs.Refuting.{Model, Refutes, is_whole, facts_of};
 ghost use Rattle.ss_search_procedure_rules.specs.Clashes.{Classing, model_by, FitsClasses};
-ghost use Rattle.ss_logic_occurring.specs.Includes.{Includes};
+ghost use Rattle.ss_logic.specs.Includes.{Includes};
 ghost use Rattle.ss_search_procedure_rules.specs.Closed.{basics, Fits, IsSaturated, IsTotal, Closed, StaysOpen};
 
 /// Where at some depth nothing more follows from what is reached, nothing of it is closed by splits nested so deep.

@@ -2,7 +2,7 @@
 
 use crate::names::Names;
 use ss_deriv::{Derivation, Draft, Line, Sum};
-use ss_logic_rules::{GoodRule, RuleName};
+use ss_logic::{GoodRule, RuleName};
 use ss_search_facts::{End, Fact, Facts, GoodName, Proof, Range, Reason, Reasons, RuleKind, Said};
 use ss_search_question::NONE;
 use ss_terms::{FormulaId, TermId};

@@ -8,10 +8,10 @@ use Rattle.ss_core.specs.Tree.{ClassTree}
 use Rattle.ss_logic.specs.Terms.{Symbol, Term, Bound, App, Terms, no_terms, term_then, term_list}
 use Rattle.ss_logic.specs.Formulas.{Predicate, Equal, Formula, Formulas, Literal, And, Or, Forall, Exists, no_formulas, formula_then, neg}
 use Rattle.ss_logic.specs.Equal.{same_term, same_symbol, same_predicate}
-use Rattle.ss_logic_rules.specs.Shapes.{equal}
-use Rattle.ss_logic_derivations.specs.Steps.{is_value}
+use Rattle.ss_logic.specs.Shapes.{equal}
+use Rattle.ss_logic_means.specs.Steps.{is_value}
 use Rattle.ss_linear_rules.specs.Two.{Two}
-use Rattle.ss_logic_ground.specs.Occurring.{terms}
+use Rattle.ss_logic.specs.Occurring.{terms}
 use Rattle.ss_logic_countermodels.specs.Refuting.{Model, Refutes, comes_out, all_come_true, some_comes_true, told_in, all_told_in, told, classes_of, same_classes, are_congruent, are_alike, are_apart, is_equal_inside, implies, as_told, is_whole, equalities_of, equalities, facts_of}
 use Rattle.ss_search_procedure_rules.proofs.Lists.{contains_head, contains_cons, from_filter, all_at, all_from}
 use Rattle.ss_search_procedure_rules.proofs.Occurring.{from_collected, to_collected}

@@ -12,7 +12,7 @@ use Rattle.ss_logic_countermodels.specs.Refuting.{told_in}
 use Rattle.ss_terms.specs.declared.forms.FormulaId.{FormulaId}
 use Rattle.ss_terms.specs.Forms.{Forms, formula_at, formulas_at, HasFormulas}
 use Rattle.ss_rules_occurring.specs.Found.{AreMarked, formula_number}
-use Rattle.ss_logic_occurring.specs.Includes.{Includes}
+use Rattle.ss_logic.specs.Includes.{Includes}
 use Rattle.ss_search_procedure_rules.specs.Closed.{basics, IsSatisfied, TwoMayHold}
 use Rattle.ss_search_procedure_rules.proofs.Lists.{contains_none, map_from, map_to, any_at}
 use Rattle.ss_search_reached.specs.declared.looking.Looking.{Looking}

@@ -8,7 +8,7 @@ use Rattle.std.proofs.lemmas.List.{map-set, map_push, get_or-map, get_or-set_sam
 use Rattle.std.proofs.lemmas.List.Elements.{Contains-append_left, Contains-append_right, Contains-append_cases}
 use Rattle.ss_terms.specs.declared.forms.TermId.{TermId}
 use Rattle.ss_equality_rules.specs.Equal.{class_number}
-use Rattle.ss_logic_occurring.specs.Includes.{Includes}
+use Rattle.ss_logic.specs.Includes.{Includes}
 use Rattle.ss_search_procedure_rules.proofs.Lists.{contains_none}
 use Rattle.ss_linear.specs.Contradictions.{Pairs}
 use Rattle.ss_search_reached.specs.Groups.{lists_in, group_at, AreGrouped, ArePaired, ArePairs, ArePairsBelow}

@@ -6,8 +6,8 @@ use Rattle.std.proofs.lemmas.List.{append-nil, drop_more, drop_all}
 use Rattle.std.proofs.lemmas.List.Elements.{Contains-append_left, Contains-append_right, Contains-append_cases}
 use Rattle.ss_core.specs.Tree.{ClassTree}
 use Rattle.ss_logic.specs.Terms.{Term}
-use Rattle.ss_logic_rules.specs.Shapes.{equal}
-use Rattle.ss_logic_sums.specs.Sums.{sum_fact_of}
+use Rattle.ss_logic.specs.Shapes.{equal}
+use Rattle.ss_logic.specs.Sums.{sum_fact_of}
 use Rattle.ss_linear.specs.Contradictions.{equality_at, equalities_at, Pairs}
 use Rattle.ss_linear.specs.Met.{Meets, MeetsSome, AllMet, AllSaid, Follow}
 use Rattle.ss_linear.proofs.Seen.{Comes, same_number, sides, equal_meets}

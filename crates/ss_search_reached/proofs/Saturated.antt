@@ -7,7 +7,7 @@ use Rattle.ss_logic.specs.Formulas.{Formula, And, Or}
 use Rattle.ss_terms.specs.declared.forms.FormulaId.{FormulaId}
 use Rattle.ss_terms.specs.Forms.{Forms, formulas_at}
 use Rattle.ss_search_clashes.specs.Numbered.{class_of}
-use Rattle.ss_logic_occurring.specs.Includes.{Includes}
+use Rattle.ss_logic.specs.Includes.{Includes}
 use Rattle.ss_search_procedure_rules.specs.Closed.{basics, IsSaturated}
 use Rattle.ss_search_procedure_rules.specs.Clashes.{model_by}
 use Rattle.ss_search_procedure_rules.proofs.Facts.{refuting}

@@ -10,7 +10,7 @@ use Rattle.ss_bit_set.specs.Marked.{marked}
 use Rattle.ss_logic.specs.Terms.{Symbol, Term, Bound, App, Terms, no_terms, term_then, term_list, terms_from}
 use Rattle.ss_logic.specs.Formulas.{Predicate, Formula, Formulas, Literal, And, Or, Forall, Exists, no_formulas, formula_then, formulas_from, neg}
 use Rattle.ss_logic.specs.Equal.{same_term, equal_terms, same_term_equal, same_formula, equal_formulas, same_formula_equal}
-use Rattle.ss_logic_ground.specs.Occurring.{atoms_in, all_atoms_in, atoms, terms}
+use Rattle.ss_logic.specs.Occurring.{atoms_in, all_atoms_in, atoms, terms}
 use Rattle.ss_logic_countermodels.specs.declared.Countermodel.{Countermodel}
 use Rattle.ss_logic_countermodels.specs.Refuting.{Model, Refutes, IsCountermodel, told_in, all_told_in, told, model_of, place_among}
 use Rattle.ss_terms.specs.declared.forms.TermId.{TermId}
@@ -21,7 +21,7 @@ use Rattle.ss_equality_rules.specs.Equal.{AreFormsOf, class_number}
 use Rattle.ss_terms.proofs.Sorted.{list_back}
 use Rattle.ss_equality_rules.proofs.Lists.{there}
 use Rattle.ss_search_clashes.specs.Numbered.{class_of, IsClassing}
-use Rattle.ss_logic_occurring.specs.Includes.{Includes}
+use Rattle.ss_logic.specs.Includes.{Includes}
 use Rattle.ss_search_procedure_rules.specs.Closed.{basics, IsTotal}
 use Rattle.ss_search_procedure_rules.specs.Clashes.{model_by}
 use Rattle.ss_search_procedure_rules.proofs.Lists.{contains_head, contains_cons, contains_none, contains_split, map_from, map_to}

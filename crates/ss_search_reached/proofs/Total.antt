@@ -6,9 +6,9 @@ use Rattle.std.proofs.lemmas.Bool.{false≢true}
 use Rattle.std.proofs.lemmas.List.Elements.{Contains-append_cases}
 use Rattle.ss_core.specs.Tree.{ClassTree}
 use Rattle.ss_logic.specs.Formulas.{Formula, neg}
-use Rattle.ss_logic_ground.specs.Occurring.{atoms, terms}
+use Rattle.ss_logic.specs.Occurring.{atoms, terms}
 use Rattle.ss_logic_countermodels.specs.Refuting.{Model, Refutes, comes_out, told_in, told, as_told, is_whole, equalities, facts_of}
-use Rattle.ss_logic_occurring.specs.Includes.{Includes}
+use Rattle.ss_logic.specs.Includes.{Includes}
 use Rattle.ss_search_procedure_rules.specs.Closed.{is_basic, basics, IsSaturated, IsTotal}
 use Rattle.ss_search_procedure_rules.specs.Clashes.{Classing, model_by}
 use Rattle.ss_search_procedure_rules.proofs.Lists.{contains_filter, from_filter, map_from, all_at}

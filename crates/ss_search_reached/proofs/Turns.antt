@@ -10,7 +10,7 @@ use Rattle.ss_terms.specs.declared.forms.FormulaId.{FormulaId}
 use Rattle.ss_terms.specs.Forms.{Forms, formula_at, formulas_at, HasFormulas}
 use Rattle.ss_equality_rules.specs.Equal.{Equations, AreFormsOf, AreClassesOf}
 use Rattle.ss_search_clashes.specs.Numbered.{class_of}
-use Rattle.ss_logic_occurring.specs.Includes.{Includes}
+use Rattle.ss_logic.specs.Includes.{Includes}
 use Rattle.ss_search_procedure_rules.specs.Closed.{basics, OccursIn}
 use Rattle.ss_search_procedure_rules.specs.Clashes.{FitsClasses}
 use Rattle.ss_rules_occurring.specs.Found.{AreMarked, formula_number}

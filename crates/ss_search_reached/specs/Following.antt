@@ -4,16 +4,16 @@ use Rattle.std.specs.List.{Contains}
 use Rattle.ss_core.specs.Tree.{ClassTree}
 use Rattle.ss_logic.specs.Terms.{Term}
 use Rattle.ss_logic.specs.Formulas.{Formula, Formulas, And, Or, formula_list}
-use Rattle.ss_logic_rules.specs.Shapes.{equal}
+use Rattle.ss_logic.specs.Shapes.{equal}
 use Rattle.ss_linear_rules.specs.Two.{Two}
-use Rattle.ss_logic_ground.specs.Occurring.{terms}
+use Rattle.ss_logic.specs.Occurring.{terms}
 use Rattle.ss_logic_countermodels.specs.Refuting.{is_whole}
 use Rattle.ss_terms.specs.declared.forms.TermId.{TermId}
 use Rattle.ss_terms.specs.declared.forms.FormulaId.{FormulaId}
 use Rattle.ss_terms.specs.Forms.{Forms, term_at, formulas_at, HasTerm, HasFormulas}
 use Rattle.ss_equality_rules.specs.Equal.{class_number}
 use Rattle.ss_search_clashes.specs.Numbered.{class_of}
-use Rattle.ss_logic_occurring.specs.Includes.{Includes}
+use Rattle.ss_logic.specs.Includes.{Includes}
 use Rattle.ss_search_procedure_rules.specs.Closed.{basics, IsSatisfied, TwoMayHold, OccursIn}
 use Rattle.ss_search_procedure_rules.specs.Clashes.{Classing, FitsClasses}
 use Rattle.ss_search_reached.specs.declared.reached.Reached.{Reached}

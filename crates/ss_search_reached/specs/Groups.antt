@@ -10,7 +10,7 @@ use Rattle.ss_terms.specs.Forms.{Forms, term_at, HasTerm}
 use Rattle.ss_linear.specs.Contradictions.{Pairs, equalities_at}
 use Rattle.ss_linear.specs.Met.{Follow}
 use Rattle.ss_equality_rules.specs.Equal.{class_number}
-use Rattle.ss_logic_occurring.specs.Includes.{Includes}
+use Rattle.ss_logic.specs.Includes.{Includes}
 
 abbrev pub lists_in : List (Vec TermId Global) → List (List TermId)
 lists_in vs = map (λ v. v.items) vs

@@ -4,7 +4,7 @@ ghost use Rattle.std.specs.Prelude.{◌≡◌, List, filter, IfOk};
 ghost use Rattle.ss_core.specs.Tree.{ClassTree};
 ghost use Rattle.ss_logic.specs.declared.Sort.TheVariants as sorts;
 ghost use Rattle.ss_logic.specs.Terms.{same_sort};
-ghost use Rattle.ss_logic_ground.specs.Occurring as spec;
+ghost use Rattle.ss_logic.specs.Occurring as spec;
 ghost use Rattle.ss_logic_countermodels.specs.Refuting as words;
 ghost use Rattle.ss_terms.specs.Forms.{formula_at, formulas_at, term_at, terms_at, HasFormula, HasFormulas, HasTerm, HasTerms, IsBankOf};
 ghost use Rattle.ss_rules_occurring.specs.Found.{HoldsTerms};

@@ -4,7 +4,7 @@ ghost use Rattle.std.specs.Prelude.{◌≡◌, ◌<◌, ◌∷◌, ◌++◌, ℕ
 ghost use Rattle.ss_core.specs.Tree.{ClassTree};
 ghost use Rattle.ss_terms.specs.Forms.{formulas_at, HasFormulas, IsBankOf};
 ghost use Rattle.ss_equality_rules.specs.Equal as words;
-ghost use Rattle.ss_logic_ground.specs.Occurring as spec;
+ghost use Rattle.ss_logic.specs.Occurring as spec;
 ghost use Rattle.ss_linear.specs.Contradictions.{HasPairs};
 ghost use Rattle.ss_search_reached.specs.Groups.{lists_in, AreGrouped, ArePaired, ArePairs, AreOfOneClass, AreWholePairs};
 

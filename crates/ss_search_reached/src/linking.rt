@@ -3,7 +3,7 @@
 ghost use Rattle.std.specs.Prelude.{◌≡◌, ◌+◌, ◌<◌, ◌++◌, List, length, drop, IfOk, OnOk};
 ghost use Rattle.ss_core.specs.Tree.{ClassTree};
 ghost use Rattle.ss_terms.specs.Forms.{formulas_at, HasFormulas, IsBankOf};
-ghost use Rattle.ss_logic_ground.specs.Occurring as spec;
+ghost use Rattle.ss_logic.specs.Occurring as spec;
 ghost use Rattle.ss_linear.specs.Contradictions.{HasPairs};
 ghost use Rattle.ss_search_reached.specs.Groups.{neighbours, AreChained, AreOfOneClass, AreWholeLinks};
 

@@ -9,7 +9,7 @@ ghost use Rattle.ss_terms.specs.declared.forms.TermId.{TermId};
 ghost use Rattle.ss_terms.specs.declared.forms.FormulaId.{FormulaId};
 ghost use Rattle.ss_terms.specs.Forms.{term_at, formula_at, formulas_at, HasTerm, HasFormula, HasFormulas};
 ghost use Rattle.ss_equality_rules.specs.Equal as words;
-ghost use Rattle.ss_logic_occurring.specs.Includes.{Includes};
+ghost use Rattle.ss_logic.specs.Includes.{Includes};
 ghost use Rattle.ss_search_procedure_rules.specs.Closed.{IsTotal};
 ghost use Rattle.ss_search_reached.specs.Known.{known_in, is_name, IsReached};
 ghost use Rattle.ss_search_reached.specs.Following.{AreOneClass, IsOpen};

@@ -6,7 +6,7 @@ use Rattle.std.proofs.lemmas.List.{length_push}
 use Rattle.ss_core.specs.Tree.{ClassTree}
 use Rattle.ss_logic.specs.Formulas.{Formula, Literal, And, Or, Forall, Exists, no_formulas, formula_then, formulas_from, is_well_formed, neg}
 use Rattle.ss_logic.proofs.Truth.{neg_neg}
-use Rattle.ss_logic_derivations.specs.Steps.{is_cut, is_literal, is_quantified}
+use Rattle.ss_logic_means.specs.Steps.{is_cut, is_literal, is_quantified}
 use Rattle.ss_terms.specs.declared.forms.FormulaId.{FormulaId}
 use Rattle.ss_terms.specs.Forms.{Forms, formula_at, formulas_at}
 use Rattle.ss_terms.proofs.Tested.{neg_formed}
@@ -14,20 +14,20 @@ use Rattle.ss_deriv.specs.declared.line.Line.{Line}
 use Rattle.ss_deriv.specs.Lines.{lines_of}
 use Rattle.ss_equality_rules.specs.declared.Merge.{Merge}
 use Rattle.ss_search_procedure_rules.specs.Closed.{is_basic}
-use Rattle.ss_search_closing.specs.Closing.{Closes}
+use Rattle.ss_search_clashes.specs.Closing.{Closes}
 use Rattle.ss_search_path.specs.declared.path.Path.{Path}
 use Rattle.ss_search_path.specs.declared.path.Mark.{Mark}
 use Rattle.ss_search_path.specs.Paths.{known_on, GoesOn, IsMark, IsBack, IsSame, opening, BeginsCase, IsTrial, EndsWith}
 use Rattle.ss_search_path.proofs.Going.{goes_through, goes_nowhere, trial_undone}
 use Rattle.ss_search_reached.proofs.Fronts.{front_trans}
-use Rattle.ss_search_standing.specs.declared.standing.Given.{Given}
-use Rattle.ss_search_standing.specs.declared.standing.Standing.{Standing}
-use Rattle.ss_search_standing.specs.Standing.{IsGuardedAt, Stands}
-use Rattle.ss_search_standing.proofs.Facts.{known_more, whole_fact, body_formed}
-use Rattle.ss_search_standing.proofs.Steps.{kept_one_more, last_known}
-use Rattle.ss_search_refuting.specs.declared.basic.Refuting.{Refuting}
-use Rattle.ss_search_refuting.specs.Refuting.{bank_of, IsHolding, or_of, AreShown, IsShown, GoesOnFrom, ClosesFrom}
-use Rattle.ss_search_refuting.proofs.Shown.{shown_longer, back_known}
+use Rattle.ss_search_path.specs.declared.standing.Given.{Given}
+use Rattle.ss_search_path.specs.declared.standing.Standing.{Standing}
+use Rattle.ss_search_path.specs.Standing.{IsGuardedAt, Stands}
+use Rattle.ss_search_path.proofs.StandingFacts.{known_more, whole_fact, body_formed}
+use Rattle.ss_search_path.proofs.Steps.{kept_one_more, last_known}
+use Rattle.ss_search_reaching.specs.declared.basic.Refuting.{Refuting}
+use Rattle.ss_search_reaching.specs.Refuting.{bank_of, IsHolding, or_of, AreShown, IsShown, GoesOnFrom, ClosesFrom}
+use Rattle.ss_search_reaching.proofs.Shown.{shown_longer, back_known}
 use Rattle.ss_search_reaching.specs.declared.branches.Beside.{Beside}
 use Rattle.ss_search_reaching.specs.declared.branches.Resolved.{Resolved}
 use Rattle.ss_search_reaching.specs.declared.branches.Resolved.TheVariants as resolved

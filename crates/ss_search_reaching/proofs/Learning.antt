@@ -4,12 +4,12 @@ use Rattle.std.specs.Prelude.{slice_get, OnOk}
 use Rattle.std.proofs.lemmas.List.{length-map, length_push, map_push}
 use Rattle.ss_core.specs.Tree.{ClassTree}
 use Rattle.ss_logic.specs.Formulas.{Formula, Or, formulas_from, is_well_formed, neg}
-use Rattle.ss_logic_rules.specs.Shapes.{equal}
+use Rattle.ss_logic.specs.Shapes.{equal}
 use Rattle.ss_terms.specs.declared.forms.FormulaId.{FormulaId}
 use Rattle.ss_terms.specs.Forms.{Forms, term_at, formula_at}
 use Rattle.ss_equality_rules.specs.declared.Merge.{Merge}
 use Rattle.ss_search_procedure_rules.specs.Closed.{is_basic}
-use Rattle.ss_search_equating.specs.Said.{IsKnown, AreKnown}
+use Rattle.ss_search_clashes.specs.Said.{IsKnown, AreKnown}
 use Rattle.ss_search_path.specs.declared.path.Path.{Path}
 use Rattle.ss_search_path.specs.Paths.{known_on}
 use Rattle.ss_search_path.proofs.Going.{goes_nowhere, goes_through}
@@ -20,11 +20,11 @@ use Rattle.ss_search_reached.proofs.Names.{is_bound}
 use Rattle.ss_search_reached.proofs.Remembering.{remembers_itself, remembers_more}
 use Rattle.ss_search_reached.proofs.Spread.{grows_itself, grows_on, grows_add}
 use Rattle.ss_search_reached.proofs.Turns.{no_shorter}
-use Rattle.ss_search_standing.specs.declared.standing.Given.{Given}
-use Rattle.ss_search_standing.specs.declared.standing.Standing.{Standing}
-use Rattle.ss_search_standing.specs.declared.standing.Standing.TheVariants.{Fact, Guarded}
-use Rattle.ss_search_standing.specs.Standing.{AreChosen, Stands, AreStanding}
-use Rattle.ss_search_standing.proofs.Facts.{basic_fact, one_more_stands}
+use Rattle.ss_search_path.specs.declared.standing.Given.{Given}
+use Rattle.ss_search_path.specs.declared.standing.Standing.{Standing}
+use Rattle.ss_search_path.specs.declared.standing.Standing.TheVariants.{Fact, Guarded}
+use Rattle.ss_search_path.specs.Standing.{AreChosen, Stands, AreStanding}
+use Rattle.ss_search_path.proofs.StandingFacts.{basic_fact, one_more_stands}
 use Rattle.ss_search_reaching.specs.declared.reaching.Reaching.{Reaching}
 use Rattle.ss_search_reaching.specs.Reaching.{place_of, facts_of, reached_of, IsReaching, Shows, Grows, ReachesFrom}
 

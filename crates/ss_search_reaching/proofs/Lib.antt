@@ -3,3 +3,6 @@ pub mod Turning
 pub mod Learning
 pub mod Spread
 pub mod Resolving
+pub mod Beside
+pub mod Shown
+pub mod Parts

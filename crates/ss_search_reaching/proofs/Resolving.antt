@@ -4,7 +4,7 @@ use Rattle.std.specs.Prelude.{slice_get}
 use Rattle.std.proofs.lemmas.Option.{slice_get_within}
 use Rattle.ss_core.specs.Tree.{ClassTree}
 use Rattle.ss_logic.specs.Formulas.{Formula, Formulas, Or, formula_list, formulas_from}
-use Rattle.ss_logic_derivations.specs.Steps.{count_of}
+use Rattle.ss_logic_means.specs.Steps.{count_of}
 use Rattle.ss_terms.specs.declared.forms.FormulaId.{FormulaId}
 use Rattle.ss_terms.specs.Forms.{Forms, formula_at, formulas_at}
 use Rattle.ss_deriv.specs.declared.line.Line.{Line}
@@ -21,11 +21,11 @@ use Rattle.ss_search_reached.proofs.Fronts.{front_push}
 use Rattle.ss_search_path.specs.declared.path.Path.{Path}
 use Rattle.ss_search_path.specs.Paths.{known_on, GoesOn, AreCases}
 use Rattle.ss_search_path.proofs.Going.{goes_through, goes_nowhere}
-use Rattle.ss_search_standing.specs.declared.standing.Standing.TheVariants.{Fact}
-use Rattle.ss_search_standing.specs.Standing.{parts_of, AreChosen, IsFact, IsOpenedFact}
-use Rattle.ss_search_standing.proofs.Facts.{known_more, longer_chosen, or_fact}
-use Rattle.ss_search_refuting.specs.Refuting.{bank_of, IsHolding, or_of, IsShown, StaysFrom, ClosesFrom, between, AreCasesFrom}
-use Rattle.ss_search_refuting.proofs.Parts.{part_stands, as_many, count_is}
+use Rattle.ss_search_path.specs.declared.standing.Standing.TheVariants.{Fact}
+use Rattle.ss_search_path.specs.Standing.{parts_of, AreChosen, IsFact, IsOpenedFact}
+use Rattle.ss_search_path.proofs.StandingFacts.{known_more, longer_chosen, or_fact}
+use Rattle.ss_search_reaching.specs.Refuting.{bank_of, IsHolding, or_of, IsShown, StaysFrom, ClosesFrom, between, AreCasesFrom}
+use Rattle.ss_search_reaching.proofs.Parts.{part_stands, as_many, count_is}
 use Rattle.ss_search_reaching.specs.declared.branches.Beside.{Beside}
 use Rattle.ss_search_reaching.specs.declared.branches.Resolved.{Resolved}
 use Rattle.ss_search_reaching.specs.declared.branches.Resolved.TheVariants as resolved

@@ -9,13 +9,14 @@ use Rattle.ss_search_path.specs.declared.path.Path.{Path}
 use Rattle.ss_search_path.specs.Paths.{known_on, GoesOn, IsSame}
 use Rattle.ss_search_path.proofs.Going.{goes_nowhere, goes_through}
 use Rattle.ss_search_reached.proofs.Fronts.{front_trans}
-use Rattle.ss_search_standing.specs.declared.standing.Given.{Given}
-use Rattle.ss_search_standing.specs.declared.standing.Standing.{Standing}
-use Rattle.ss_search_standing.specs.declared.standing.Standing.TheVariants.{Fact, Guarded}
-use Rattle.ss_search_standing.specs.Standing.{IsOpenedFact, Stands, AreChosen}
-use Rattle.ss_search_standing.proofs.Facts.{known_more, longer_standing, longer_opened}
-use Rattle.ss_search_refuting.specs.Refuting.{and_of}
-use Rattle.ss_search_refuting.proofs.Shown.{map_at, part_there, merges_longer}
+use Rattle.ss_search_path.specs.declared.standing.Given.{Given}
+use Rattle.ss_search_path.specs.declared.standing.Standing.{Standing}
+use Rattle.ss_search_path.specs.declared.standing.Standing.TheVariants.{Fact, Guarded}
+use Rattle.ss_search_path.specs.Standing.{IsOpenedFact, Stands, AreChosen}
+use Rattle.ss_search_path.proofs.StandingFacts.{known_more, longer_standing, longer_opened}
+use Rattle.ss_search_reaching.specs.Refuting.{and_of}
+use Rattle.ss_search_path.proofs.Longer.{merges_longer}
+use Rattle.ss_search_reaching.proofs.Shown.{map_at, part_there}
 use Rattle.ss_search_reaching.specs.declared.reaching.Reaching.{Reaching}
 use Rattle.ss_search_reaching.specs.Reaching.{place_of, start_of, facts_of, reached_of, Shows, Grows, ReachesOn, ReachesFrom}
 

@@ -14,26 +14,26 @@ use Rattle.ss_equality_rules.specs.declared.Merge.{Merge}
 use Rattle.ss_equality_rules.specs.Equal as equal
 use Rattle.ss_equality_rules.specs.Equal.{AreClassesOf}
 use Rattle.ss_search_procedure_rules.specs.Closed.{is_basic}
-use Rattle.ss_search_closing.specs.Closing.{Closes}
+use Rattle.ss_search_clashes.specs.Closing.{Closes}
 use Rattle.ss_search_reached.proofs.Branches.{one_follows, none_follows}
 use Rattle.ss_search_reached.proofs.Fronts.{front_itself}
 use Rattle.ss_search_reached.proofs.Remembering.{remembers_alike}
 use Rattle.ss_search_reached.proofs.Turns.{no_shorter, still_reached, grows_alike}
-use Rattle.ss_search_clashing.specs.Cases.{AreAt, CloseCase}
+use Rattle.ss_search_clashes.specs.Cases.{AreAt, CloseCase}
 use Rattle.ss_search_reached.specs.declared.looking.Looking.{Looking}
 use Rattle.ss_search_reached.specs.Following.{AreUnits}
-use Rattle.ss_search_equating.specs.Said.{AreKnown}
+use Rattle.ss_search_clashes.specs.Said.{AreKnown}
 use Rattle.ss_search_path.specs.declared.path.Path.{Path}
 use Rattle.ss_search_path.specs.Paths.{known_on, GoesOn}
 use Rattle.ss_search_path.proofs.Going.{goes_through, goes_nowhere}
-use Rattle.ss_search_standing.specs.declared.standing.Given.{Given}
-use Rattle.ss_search_standing.specs.declared.standing.Standing.{Standing}
-use Rattle.ss_search_standing.specs.declared.standing.Standing.TheVariants.{Fact, Guarded}
-use Rattle.ss_search_standing.specs.Standing.{AreChosen, IsOpenedFact, IsGuardedAt, Stands}
-use Rattle.ss_search_standing.proofs.Facts.{known_more, longer_stands, basic_fact}
-use Rattle.ss_search_refuting.specs.declared.basic.Refuting.{Refuting}
-use Rattle.ss_search_refuting.specs.Refuting.{bank_of, or_of, AreShown}
-use Rattle.ss_search_refuting.proofs.Shown.{map_at, shown_longer}
+use Rattle.ss_search_path.specs.declared.standing.Given.{Given}
+use Rattle.ss_search_path.specs.declared.standing.Standing.{Standing}
+use Rattle.ss_search_path.specs.declared.standing.Standing.TheVariants.{Fact, Guarded}
+use Rattle.ss_search_path.specs.Standing.{AreChosen, IsOpenedFact, IsGuardedAt, Stands}
+use Rattle.ss_search_path.proofs.StandingFacts.{known_more, longer_stands, basic_fact}
+use Rattle.ss_search_reaching.specs.declared.basic.Refuting.{Refuting}
+use Rattle.ss_search_reaching.specs.Refuting.{bank_of, or_of, AreShown}
+use Rattle.ss_search_reaching.proofs.Shown.{map_at, shown_longer}
 use Rattle.ss_search_reaching.specs.declared.branches.Beside.{Beside}
 use Rattle.ss_search_reaching.specs.declared.branches.Resolved.{Resolved}
 use Rattle.ss_search_reaching.specs.declared.branches.Resolved.TheVariants as resolved

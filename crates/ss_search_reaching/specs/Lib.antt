@@ -1,3 +1,4 @@
 pub mod Reaching
 pub mod Units
 pub mod Turns
+pub mod Refuting

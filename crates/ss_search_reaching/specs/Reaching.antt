@@ -4,15 +4,15 @@ use Rattle.ss_core.specs.Tree.{ClassTree}
 use Rattle.ss_logic.specs.Formulas.{Formula}
 use Rattle.ss_deriv.specs.declared.line.Line.{Line}
 use Rattle.ss_deriv.specs.Lines.{lines_of}
-use Rattle.ss_search_closing.specs.Closing.{Closes}
-use Rattle.ss_search_equating.specs.Said.{AreKnown}
+use Rattle.ss_search_clashes.specs.Closing.{Closes}
+use Rattle.ss_search_clashes.specs.Said.{AreKnown}
 use Rattle.ss_search_path.specs.Paths.{known_on, GoesOn}
 use Rattle.ss_search_reached.specs.Known.{known_in, IsReached, Remembers}
 use Rattle.ss_search_reached.specs.Following as following
-use Rattle.ss_search_standing.specs.declared.standing.Given.{Given}
-use Rattle.ss_search_standing.specs.declared.standing.Standing.{Standing}
-use Rattle.ss_search_standing.specs.declared.standing.Standing.TheVariants.{Fact, Guarded}
-use Rattle.ss_search_standing.specs.Standing.{AreStanding}
+use Rattle.ss_search_path.specs.declared.standing.Given.{Given}
+use Rattle.ss_search_path.specs.declared.standing.Standing.{Standing}
+use Rattle.ss_search_path.specs.declared.standing.Standing.TheVariants.{Fact, Guarded}
+use Rattle.ss_search_path.specs.Standing.{AreStanding}
 use Rattle.ss_search_reaching.specs.declared.reaching.Reaching.{Reaching}
 
 -- The place of a fact. What is guarded is an `or`, which isn't asked at its place, so any number does.

@@ -8,15 +8,15 @@ use Rattle.ss_terms.specs.Forms.{Forms, formula_at}
 use Rattle.ss_deriv.specs.declared.line.Line.{Line}
 use Rattle.ss_deriv.specs.Lines.{lines_of}
 use Rattle.ss_equality_rules.specs.declared.Merge.{Merge}
-use Rattle.ss_search_closing.specs.Closing.{Closes}
+use Rattle.ss_search_clashes.specs.Closing.{Closes}
 use Rattle.ss_search_path.specs.declared.path.Path.{Path}
 use Rattle.ss_search_path.specs.Paths.{known_on, GoesOn}
 use Rattle.ss_search_reached.specs.Following.{AreUnits}
-use Rattle.ss_search_standing.specs.declared.standing.Given.{Given}
-use Rattle.ss_search_standing.specs.declared.standing.Standing.{Standing}
-use Rattle.ss_search_standing.specs.Standing.{Stands}
-use Rattle.ss_search_refuting.specs.declared.basic.Refuting.{Refuting}
-use Rattle.ss_search_refuting.specs.Refuting.{bank_of, AreShown}
+use Rattle.ss_search_path.specs.declared.standing.Given.{Given}
+use Rattle.ss_search_path.specs.declared.standing.Standing.{Standing}
+use Rattle.ss_search_path.specs.Standing.{Stands}
+use Rattle.ss_search_reaching.specs.declared.basic.Refuting.{Refuting}
+use Rattle.ss_search_reaching.specs.Refuting.{bank_of, AreShown}
 use Rattle.ss_search_reaching.specs.declared.branches.Beside.{Beside}
 use Rattle.ss_search_reaching.specs.declared.branches.Resolved.{Resolved}
 use Rattle.ss_search_reaching.specs.declared.branches.Resolved.TheVariants as resolved

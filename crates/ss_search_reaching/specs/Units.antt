@@ -7,16 +7,16 @@ use Rattle.ss_terms.specs.Forms.{formula_at}
 use Rattle.ss_deriv.specs.Lines.{lines_of}
 use Rattle.ss_equality_rules.specs.declared.Merge.{Merge}
 use Rattle.ss_equality_rules.specs.Equal as equal
-use Rattle.ss_search_closing.specs.Closing.{Closes}
+use Rattle.ss_search_clashes.specs.Closing.{Closes}
 use Rattle.ss_search_path.specs.declared.path.Path.{Path}
 use Rattle.ss_search_path.specs.Paths.{known_on, GoesOn}
 use Rattle.ss_search_reached.specs.declared.looking.Looking.{Looking}
 use Rattle.ss_search_reached.specs.Looks.{known_at, IsLooking, IsPartOf}
 use Rattle.ss_search_reached.specs.Following.{IsOpenBranch}
-use Rattle.ss_search_standing.specs.declared.standing.Given.{Given}
-use Rattle.ss_search_standing.specs.declared.standing.Standing.{Standing}
-use Rattle.ss_search_standing.specs.Standing.{IsGuardedAt, Stands}
-use Rattle.ss_search_refuting.specs.Refuting.{bank_of, AreShown, IsShown, or_of, IsRefuting}
+use Rattle.ss_search_path.specs.declared.standing.Given.{Given}
+use Rattle.ss_search_path.specs.declared.standing.Standing.{Standing}
+use Rattle.ss_search_path.specs.Standing.{IsGuardedAt, Stands}
+use Rattle.ss_search_reaching.specs.Refuting.{bank_of, AreShown, IsShown, or_of, IsRefuting}
 use Rattle.ss_search_reaching.specs.declared.branches.Beside.{Beside}
 use Rattle.ss_search_reaching.specs.declared.branches.Resolved.{Resolved}
 use Rattle.ss_search_reaching.specs.declared.branches.Resolved.TheVariants as resolved

@@ -5,16 +5,15 @@ ghost use Rattle.ss_terms.specs.declared.forms.FormulaId as ids;
 ghost use Rattle.ss_terms.specs.Forms.{AreBelow, HasFormulas};
 ghost use Rattle.ss_equality_rules.specs.declared.Merge.{Merge};
 ghost use Rattle.ss_search_reached.specs.Looks.{AreHolding};
-ghost use Rattle.ss_search_standing.specs.Standing.{IsGiven};
-ghost use Rattle.ss_search_refuting.specs.Refuting.{bank_of, IsHolding, or_of, AreCasesFrom};
+ghost use Rattle.ss_search_path.specs.Standing.{IsGiven};
+ghost use Rattle.ss_search_reaching.specs.Refuting.{bank_of, IsHolding, or_of, AreCasesFrom};
 ghost use Rattle.ss_search_reaching.specs.Units.{IsBeside, IsResolved, UnitFrom};
 
+use crate::{FactParts, Refuting, split};
 use ss_deriv::Line;
 use ss_equality::Congruence;
-use ss_search_path::{Branching, Path};
+use ss_search_path::{Branching, Path, Standing};
 use ss_search_reached::{Looking, Outcomes};
-use ss_search_refuting::{FactParts, Refuting, split};
-use ss_search_standing::Standing;
 use ss_terms::FormulaId;
 use std::alloc::AllocError;
 

@@ -7,11 +7,11 @@ ghost use Rattle.ss_terms.specs.Forms.{formula_at, AreBelow, HasFormula, HasForm
 ghost use Rattle.ss_deriv.specs.Lines.{lines_of};
 ghost use Rattle.ss_equality_rules.specs.declared.Merge.{Merge};
 ghost use Rattle.ss_search_procedure_rules.specs.Closed as closed;
-ghost use Rattle.ss_search_closing.specs.Closing.{Closes};
+ghost use Rattle.ss_search_clashes.specs.Closing.{Closes};
 ghost use Rattle.ss_search_path.specs.Paths.{known_on, IsSame};
 ghost use Rattle.ss_search_reached.specs.Looks.{AreHolding};
-ghost use Rattle.ss_search_standing.specs.Standing.{IsGiven, IsGuardedAt};
-ghost use Rattle.ss_search_refuting.specs.Refuting.{bank_of, IsRefuting, IsHolding, or_of, AreShown};
+ghost use Rattle.ss_search_path.specs.Standing.{IsGiven, IsGuardedAt};
+ghost use Rattle.ss_search_reaching.specs.Refuting.{bank_of, IsRefuting, IsHolding, or_of, AreShown};
 ghost use Rattle.ss_search_reaching.specs.Units.{IsBeside, IsResolved, part_of, LeadsToOne, UnitGuarded};
 
 use crate::branches::{Beside, Resolved};

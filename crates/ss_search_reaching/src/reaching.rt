@@ -7,13 +7,12 @@ ghost use Rattle.ss_terms.specs.Forms.{formula_at, HasFormula};
 ghost use Rattle.ss_search_path.specs.Paths.{known_on, IsMark, IsSame};
 ghost use Rattle.ss_search_reached.specs.Known.{merges_at};
 ghost use Rattle.ss_search_reached.specs.Following.{Occur};
-ghost use Rattle.ss_search_standing.specs.Standing.{AreChosen, Stands};
+ghost use Rattle.ss_search_path.specs.Standing.{AreChosen, Stands};
 ghost use Rattle.ss_search_reaching.specs.Reaching as spec;
 ghost use Rattle.ss_search_reaching.specs.Reaching.{facts_of, reached_of, IsReaching, Shows, Grows};
 
-use ss_search_path::{Mark, Path};
+use ss_search_path::{Given, Mark, Path, Standing};
 use ss_search_reached::Reached;
-use ss_search_standing::{Given, Standing};
 use ss_terms::FormulaId;
 use std::alloc::AllocError;
 

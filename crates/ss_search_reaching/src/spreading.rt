@@ -6,14 +6,14 @@ ghost use Rattle.ss_core.specs.Tree.{ClassTree};
 ghost use Rattle.ss_logic.specs.Formulas as logic;
 ghost use Rattle.ss_terms.specs.declared.forms.FormulaId as ids;
 ghost use Rattle.ss_terms.specs.Forms.{formula_at, formulas_at, HasFormulas};
-ghost use Rattle.ss_logic_occurring.specs.Includes.{Includes};
+ghost use Rattle.ss_logic.specs.Includes.{Includes};
 ghost use Rattle.ss_search_reached.specs.Following.{Occur, AreSpread, IsSpread};
-ghost use Rattle.ss_search_standing.specs.Standing.{IsGiven, IsOpenedFact};
-ghost use Rattle.ss_search_refuting.specs.Refuting.{and_of};
+ghost use Rattle.ss_search_path.specs.Standing.{IsGiven, IsOpenedFact};
+ghost use Rattle.ss_search_reaching.specs.Refuting.{and_of};
 ghost use Rattle.ss_search_reaching.specs.Reaching.{facts_of, reached_of, start_of, place_of, IsReaching, Shows, Grows, ReachesOn, ReachesFrom};
 
 use crate::reaching::Reaching;
-use ss_search_standing::{Given, Standing};
+use ss_search_path::{Given, Standing};
 use ss_terms::{Formula, FormulaId};
 use std::alloc::AllocError;
 

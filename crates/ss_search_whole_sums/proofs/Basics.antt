@@ -12,7 +12,7 @@ use Rattle.ss_terms.specs.Forms.{Forms, formula_at, formulas_at, HasFormula, Has
 use Rattle.ss_search_procedure_rules.specs.Closed.{is_basic, basics}
 use Rattle.ss_search_whole_sums.specs.Contradicting.{AreAtPlaces}
 use Rattle.ss_search_whole_sums.proofs.Written.{stand_all}
-use Rattle.ss_search_clashing.specs.Cases.{AreAt}
+use Rattle.ss_search_clashes.specs.Cases.{AreAt}
 use Rattle.ss_search_whole_sums.specs.WholeSums.{basic_ones, basic_places}
 
 module _ (b : Forms) where

@@ -9,14 +9,14 @@ use Rattle.std.proofs.lemmas.List.Folds.{list_any_at, list_any_more}
 use Rattle.std.proofs.lemmas.Int.{ints}
 use Rattle.ss_core.specs.Tree.{ClassTree}
 use Rattle.ss_logic.specs.Formulas.{Formula}
-use Rattle.ss_logic_rules.specs.Shapes.{number, at_most}
-use Rattle.ss_logic_rules.proofs.Options.{and_then_some, if_some}
+use Rattle.ss_logic.specs.Shapes.{number, at_most}
+use Rattle.ss_logic.proofs.Options.{and_then_some, if_some}
 use Rattle.ss_logic_means.specs.Sorts.{AreWellFormed}
 use Rattle.ss_logic_means.proofs.Sorting.{more_formed}
-use Rattle.ss_logic_sums.specs.Sums.{LinearSum, number_sum, sum_fact_of, add_weighted, weighted, bounded, sum_of}
-use Rattle.ss_logic_derivations.specs.Steps as tree
-use Rattle.ss_logic_derivations.specs.Steps.{is_absurd, is_opposed, is_clash}
-use Rattle.ss_logic_instances.proofs.Summing.{sum_formed}
+use Rattle.ss_logic.specs.Sums.{LinearSum, number_sum, sum_fact_of, add_weighted, weighted, bounded, sum_of}
+use Rattle.ss_logic_means.specs.Steps as tree
+use Rattle.ss_logic_means.specs.Steps.{is_absurd, is_opposed, is_clash}
+use Rattle.ss_logic_means.proofs.Summing.{sum_formed}
 use Rattle.ss_linear_rules.specs.Two.{IsFalse, Refute}
 use Rattle.ss_terms.specs.Forms.{Forms}
 use Rattle.ss_deriv.specs.declared.line.Line.{Line}
@@ -24,9 +24,9 @@ use Rattle.ss_deriv.specs.declared.line.Line.TheVariants as line
 use Rattle.ss_deriv.specs.declared.line.Sum.{Sum}
 use Rattle.ss_deriv.specs.Lines.{line_of, lines_of}
 use Rattle.ss_linear.specs.Contradictions.{summed, sums_of}
-use Rattle.ss_search_closing.specs.Closing.{Closes}
-use Rattle.ss_search_closing.proofs.Closing.{closes_fact, closes_clash}
-use Rattle.ss_search_closing.proofs.Leading.{at_front, at_end}
+use Rattle.ss_search_clashes.specs.Closing.{Closes}
+use Rattle.ss_search_clashes.proofs.Closing.{closes_fact, closes_clash}
+use Rattle.ss_search_clashes.proofs.Leading.{at_front, at_end}
 use Rattle.ss_search_whole_sums.specs.Summing.{Sums, uses, moved, moved_part, sum_line, StandAt, CloseBySums}
 
 -- ---- places

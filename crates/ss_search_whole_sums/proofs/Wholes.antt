@@ -9,8 +9,8 @@ use Rattle.ss_logic.specs.Formulas.{Formula}
 use Rattle.ss_logic.proofs.Truth.{equal_sorts}
 use Rattle.ss_logic_means.specs.Sorts.{AreWellFormed}
 use Rattle.ss_logic_means.proofs.Sorting.{more_formed}
-use Rattle.ss_logic_ground.specs.Occurring.{terms}
-use Rattle.ss_logic_origins.proofs.Formed.{each_formed, terms_sorted}
+use Rattle.ss_logic.specs.Occurring.{terms}
+use Rattle.ss_logic_means.proofs.Formed.{each_formed, terms_sorted}
 use Rattle.ss_terms.specs.declared.forms.TermId.{TermId}
 use Rattle.ss_terms.specs.declared.forms.FormulaId.{FormulaId}
 use Rattle.ss_terms.specs.Forms.{Forms, term_at, formulas_at, HasTerm}
@@ -18,7 +18,7 @@ use Rattle.ss_linear.specs.Contradictions.{equalities_at, HasPairs, Pairs}
 use Rattle.ss_deriv.specs.declared.line.Line.{Line}
 use Rattle.ss_equality_rules.specs.declared.Merge.{Merge}
 use Rattle.ss_equality_rules.specs.Equal.{Equations, AreFormsOf, AreClassesOf}
-use Rattle.ss_search_equating.proofs.Sorts.{formed_equal}
+use Rattle.ss_search_clashes.proofs.Sorts.{formed_equal}
 use Rattle.ss_search_whole_sums.specs.Contradicting.{ArePairsEqual, CloseFacts}
 use Rattle.ss_search_procedure_rules.proofs.Lists.{contains_head, contains_cons}
 use Rattle.ss_search_reached.specs.Groups.{AreOfOneClass, IsWholeIn}

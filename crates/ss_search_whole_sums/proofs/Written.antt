@@ -8,7 +8,7 @@ use Rattle.std.proofs.lemmas.List.{length-append, length-map, map-append, take_m
 use Rattle.ss_core.specs.Tree.{ClassTree}
 use Rattle.ss_logic.specs.Formulas.{Formula}
 use Rattle.ss_logic_means.specs.Sorts.{AreWellFormed}
-use Rattle.ss_logic_derivations.specs.Steps as tree
+use Rattle.ss_logic_means.specs.Steps as tree
 use Rattle.ss_terms.specs.declared.forms.TermId.{TermId}
 use Rattle.ss_terms.specs.declared.forms.FormulaId.{FormulaId}
 use Rattle.ss_terms.specs.Forms.{Forms, term_at, formula_at, formulas_at}
@@ -18,14 +18,14 @@ use Rattle.ss_linear_rules.specs.Two.{Refute}
 use Rattle.ss_linear.specs.Contradictions.{equality_at, equalities_at, Pairs}
 use Rattle.ss_equality_rules.specs.declared.Merge.{Merge}
 use Rattle.ss_equality_rules.specs.Equal.{Equations, IsEqual}
-use Rattle.ss_search_closing.specs.Closing.{Closes}
-use Rattle.ss_search_closing.specs.Leading.{Leads}
-use Rattle.ss_search_closing.proofs.Leading.{goes_on, at_front, at_end}
-use Rattle.ss_search_equating.specs.Said.{facts_said, AreKnown}
-use Rattle.ss_search_equating.proofs.Lists.{nothing_behind, one_there}
-use Rattle.ss_search_equating.proofs.Lines.{behind_first, no_line}
-use Rattle.ss_search_equating.proofs.Places.{known_long}
-use Rattle.ss_search_equating.proofs.Sorts.{formed_parts}
+use Rattle.ss_search_clashes.specs.Closing.{Closes}
+use Rattle.ss_search_clashes.specs.Leading.{Leads}
+use Rattle.ss_search_clashes.proofs.Leading.{goes_on, at_front, at_end}
+use Rattle.ss_search_clashes.specs.Said.{facts_said, AreKnown}
+use Rattle.ss_search_clashes.proofs.Lists.{nothing_behind, one_there}
+use Rattle.ss_search_clashes.proofs.Lines.{behind_first, no_line}
+use Rattle.ss_search_clashes.proofs.Places.{known_long}
+use Rattle.ss_search_clashes.proofs.Sorts.{formed_parts}
 use Rattle.ss_search_whole_sums.specs.Summing.{Sums, uses, StandAt, CloseBySums}
 use Rattle.ss_search_whole_sums.proofs.Sums.{in_front}
 use Rattle.ss_search_whole_sums.specs.Contradicting.{ArePairsEqual, Adds, AddsUsed, AreWritten, CloseWith, AreAtPlaces, CloseFacts}

@@ -13,9 +13,9 @@ use Rattle.ss_deriv.specs.Lines.{lines_of}
 use Rattle.ss_linear.specs.Contradictions.{Pairs, equality_at, equalities_at}
 use Rattle.ss_equality_rules.specs.declared.Merge.{Merge}
 use Rattle.ss_equality_rules.specs.Equal.{Equations, IsEqual}
-use Rattle.ss_search_closing.specs.Closing.{Closes}
-use Rattle.ss_search_closing.specs.Leading.{Leads}
-use Rattle.ss_search_equating.specs.Said.{facts_said, AreKnown, MakeKnown}
+use Rattle.ss_search_clashes.specs.Closing.{Closes}
+use Rattle.ss_search_clashes.specs.Leading.{Leads}
+use Rattle.ss_search_clashes.specs.Said.{facts_said, AreKnown, MakeKnown}
 use Rattle.ss_search_whole_sums.specs.Summing.{Sums, uses, StandAt}
 
 -- the terms of each pair are equal by the merges

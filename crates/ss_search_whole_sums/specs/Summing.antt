@@ -4,12 +4,12 @@ use Rattle.std.specs.List.{list_any}
 use Rattle.ss_core.specs.Tree.{ClassTree}
 use Rattle.ss_logic.specs.Formulas.{Formula}
 use Rattle.ss_logic_means.specs.Sorts.{AreWellFormed}
-use Rattle.ss_logic_derivations.specs.Steps as tree
+use Rattle.ss_logic_means.specs.Steps as tree
 use Rattle.ss_linear_rules.specs.Two.{Refute}
 use Rattle.ss_terms.specs.Forms.{Forms}
 use Rattle.ss_deriv.specs.declared.line.Line.{Line}
 use Rattle.ss_deriv.specs.Lines.{lines_of}
-use Rattle.ss_search_closing.specs.Closing.{Closes}
+use Rattle.ss_search_clashes.specs.Closing.{Closes}
 
 -- divisors, each with weights for places
 abbrev pub Sums : Type 0

@@ -9,9 +9,9 @@ use Rattle.ss_deriv.specs.declared.line.Line.{Line}
 use Rattle.ss_deriv.specs.Lines.{lines_of}
 use Rattle.ss_equality_rules.specs.declared.Merge.{Merge}
 use Rattle.ss_search_procedure_rules.specs.Closed.{is_basic}
-use Rattle.ss_search_closing.specs.Closing.{Closes}
-use Rattle.ss_search_equating.specs.Said.{AreKnown}
-use Rattle.ss_search_clashing.specs.Cases.{AreAt}
+use Rattle.ss_search_clashes.specs.Closing.{Closes}
+use Rattle.ss_search_clashes.specs.Said.{AreKnown}
+use Rattle.ss_search_clashes.specs.Cases.{AreAt}
 use Rattle.ss_search_whole_sums.specs.Contradicting.{AreAtPlaces}
 
 -- the literals and quantified formulas among these

@@ -11,7 +11,7 @@ ghost use Rattle.ss_search_whole_sums.specs.Contradicting.{ArePairsEqual, Adds, 
 use crate::summing::{close_by_sums, uses};
 use ss_deriv::{Line, Sum};
 use ss_linear::refute_with;
-use ss_search_equating::{CongruenceContext, equate};
+use ss_search_clashes::{CongruenceContext, equate};
 use ss_terms::{FormulaId, TermId};
 use std::alloc::{AllocError, Global};
 

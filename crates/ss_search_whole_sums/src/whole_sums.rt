@@ -11,8 +11,7 @@ ghost use Rattle.ss_search_whole_sums.specs.WholeSums.{basic_ones, basic_places,
 
 use crate::contradicting::close_contradiction;
 use ss_deriv::Line;
-use ss_search_clashes::classes_are_of_terms;
-use ss_search_equating::CongruenceContext;
+use ss_search_clashes::{CongruenceContext, classes_are_of_terms};
 use ss_search_reached::{is_basic, numbers_are_seen, whole_links, whole_pairs};
 use ss_terms::{Bank, FormulaId};
 use std::alloc::{AllocError, Global};

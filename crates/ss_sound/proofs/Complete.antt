@@ -4,18 +4,18 @@ use Rattle.std.specs.List.{slice_get}
 use Rattle.ss_core.specs.Tree.{ClassTree}
 use Rattle.ss_logic_countermodels.specs.declared.Countermodel.{Countermodel}
 use Rattle.ss_vcgen_heaps.specs.Positions.{Obligation}
-use Rattle.ss_search.specs.declared.answers.Options.{Options}
-use Rattle.ss_search.specs.declared.answers.Budget.{Budget}
-use Rattle.ss_search.specs.declared.answers.Budget.TheVariants as budget
-use Rattle.ss_search.specs.declared.answers.Found.TheVariants as found
-use Rattle.ss_search.specs.declared.answers.Countered.{Countered}
-use Rattle.ss_search.specs.declared.answers.Undecided.{Undecided}
-use Rattle.ss_search.specs.Found.{HasNoModelWithin}
+use Rattle.ss_search_answers.specs.declared.answers.Options.{Options}
+use Rattle.ss_search_answers.specs.declared.answers.Budget.{Budget}
+use Rattle.ss_search_answers.specs.declared.answers.Budget.TheVariants as budget
+use Rattle.ss_search_answers.specs.declared.answers.Found.TheVariants as found
+use Rattle.ss_search_answers.specs.declared.answers.Countered.{Countered}
+use Rattle.ss_search_answers.specs.declared.answers.Undecided.{Undecided}
+use Rattle.ss_search_answers.specs.Found.{HasNoModelWithin}
 use Rattle.ss_search.proofs.Carried.{proved_or_memory}
 use Rattle.ss_sound.specs.Decided.{IsCountered, IsOverBudget}
 use Rattle.ss_sound.specs.Verdicts.{IfThere, AreCountered, AreUndecided, AreDecided, IsUnproved, IsUndecided, AllHaveNoModelWithin, IsVerifiedOrMemory, IfUnproved, IfUndecided}
-use Rattle.ss_search.specs.declared.answers.Verdict.{Verdict}
-use Rattle.ss_search.specs.declared.answers.Verdict.TheVariants as verdict
+use Rattle.ss_search_answers.specs.declared.answers.Verdict.{Verdict}
+use Rattle.ss_search_answers.specs.declared.answers.Verdict.TheVariants as verdict
 
 module _ (cs : List ClassTree) (p : Options) where
   not_countered : (o : Obligation) (m : Countermodel) → HasNoModelWithin cs p o.premises o.goal → IsCountered cs p o m → ⊥

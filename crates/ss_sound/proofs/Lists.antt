@@ -9,44 +9,27 @@ use borrow.Author.Count.{below_more}
 use Rattle.std.proofs.lemmas.Bool.{cases_eq}
 use Rattle.std.proofs.lemmas.List.{append-nil, map_push, length-map}
 use Rattle.ss_core.specs.Tree.{ClassTree}
-use Rattle.ss_logic_derivations.specs.Steps as tree
+use Rattle.ss_logic_means.specs.Steps as tree
 use Rattle.ss_terms.specs.declared.forms.FormulaId.{FormulaId}
-use Rattle.ss_terms.specs.Forms.{Forms, AreBelow, HasFormula, HasFormulas, IsGrown}
+use Rattle.ss_terms.specs.Forms.{Forms, HasFormula, HasFormulas, IsGrown}
 use Rattle.ss_terms.proofs.Grown.{HasFormula-grown, formulas_at-grown}
 use Rattle.ss_vcgen_heaps.specs.Positions as oblig
 use Rattle.ss_vcgen_safe.specs.Derived.{AreDerived}
-use Rattle.ss_vcgen_formed.specs.Formed.{IsWellFormed, AreFormed}
+use Rattle.ss_vcgen_safe.specs.Formed.{IsWellFormed, AreFormed}
 use Rattle.ss_vcgen_builder.specs.declared.builder.Listed.{Listed}
 use Rattle.ss_vcgen_builder.specs.Builder.{obligation_at, obligations_at, IsPlaced, AreWithin}
+use Rattle.ss_vcgen_builder.proofs.Within.{AreBelow-take, AreBelow-drop, within_at}
 use Rattle.ss_deriv.specs.declared.line.Line.{Line}
 use Rattle.ss_deriv.specs.Lines.{lines_of}
 use Rattle.ss_search.proofs.Kept.{lines_kept}
-use Rattle.ss_search.specs.declared.answers.Options.{Options}
-use Rattle.ss_search.specs.declared.answers.Countered.{Countered}
-use Rattle.ss_search.specs.declared.answers.Undecided.{Undecided}
+use Rattle.ss_search_answers.specs.declared.answers.Options.{Options}
+use Rattle.ss_search_answers.specs.declared.answers.Countered.{Countered}
+use Rattle.ss_search_answers.specs.declared.answers.Undecided.{Undecided}
 use Rattle.ss_sound.specs.Decided.{IsDerivedBy, IsCountered, IsOverBudget, IfDerived, IfRefuted, IfOver}
 use Rattle.ss_sound.specs.Verdicts.{IsProved, IfThere, AreCountered, AreUndecided, IsNoneOf, AreDecided, derivations_of, derivations_in, countered_in, undecided_in}
-use Rattle.ss_search.specs.Listed.{countered_numbers, undecided_numbers, AreRisingFrom}
-
--- ---- parts of lists
-
-pub AreBelow-take : (n k : ℕ) (fs : List FormulaId) → AreBelow n fs → AreBelow n (take k fs)
-AreBelow-take n zero fs h = tt
-AreBelow-take n (suc k) [] h = tt
-AreBelow-take n (suc k) (f ∷ fs) h = (h.0, AreBelow-take n k fs h.1)
-
-pub AreBelow-drop : (n k : ℕ) (fs : List FormulaId) → AreBelow n fs → AreBelow n (drop k fs)
-AreBelow-drop n zero fs h = h
-AreBelow-drop n (suc k) [] h = tt
-AreBelow-drop n (suc k) (f ∷ fs) h = AreBelow-drop n k fs h.1
+use Rattle.ss_search_answers.specs.Listed.{countered_numbers, undecided_numbers, AreRisingFrom}
 
 -- ---- the obligation at a number
-
--- the k-th obligation of a list within a bank
-pub within_at : (b : Forms) (n : ℕ) (os : List Listed) (k : ℕ) (o : Listed) → AreWithin b n os → slice_get os k ≡ Some o → IsPlaced b n o
-within_at b n [] k o h e = absurd (cc)
-within_at b n (x ∷ xs) zero o h e = let same : x ≡ o = cc in subst (λ y. IsPlaced b n y) same h.0
-within_at b n (x ∷ xs) (suc k) o h e = within_at b n xs k o h.1 e
 
 tree_at : (b : Forms) (trail : List FormulaId) (os : List Listed) (k : ℕ) (o : Listed) → slice_get os k ≡ Some o
     → slice_get (obligations_at b trail os) k ≡ Some (obligation_at b trail o)
@@ -64,10 +47,6 @@ pub placed_at : (a b : Forms) (n : ℕ) (os : List Listed) (k : ℕ) (d : Listed
 placed_at a b n os k d grown h small =
     let here : IsPlaced a n (slice_index_or os k d) = within_at a n os k (slice_index_or os k d) h (read_at os k d small) in
     record { goal = HasFormula-grown a b grown (slice_index_or os k d).goal here.goal; first = here.first; end = here.end }
-
-pub within_later : (a b : Forms) (n : ℕ) (os : List Listed) → IsGrown a b → AreWithin a n os → AreWithin b n os
-within_later a b n [] grown h = tt
-within_later a b n (o ∷ os) grown h = (record { goal = HasFormula-grown a b grown o.goal h.0.goal; first = h.0.first; end = h.0.end }, within_later a b n os grown h.1)
 
 -- an obligation says the same in a bank that has grown
 obligation_grown : (a b : Forms) (trail : List FormulaId) (o : Listed) → IsGrown a b → HasFormulas a trail → HasFormula a o.goal → obligation_at b trail o ≡ obligation_at a trail o

@@ -2,8 +2,8 @@
 use Rattle.std.proofs.Common.{◌≡◌, List, [], subst}
 use Rattle.ss_core.specs.Tree.{CoreTree}
 use Rattle.ss_store_rules.specs.Formed.{IsFormed}
-use Rattle.ss_logic_derivations.specs.Steps.{Line}
-use Rattle.ss_machine_good_runs.proofs.Runs.{run_good}
+use Rattle.ss_logic_means.specs.Steps.{Line}
+use Rattle.ss_machine_good.proofs.Runs.{run_good}
 use Rattle.ss_sound_runs.proofs.Runs.{never_fails}
 use Rattle.ss_vcgen_heaps.specs.Positions.{Obligation}
 use Rattle.ss_vcgen_heaps.specs.Obligations.{obligations}
@@ -13,8 +13,8 @@ use Rattle.ss_vcgen_safe.specs.Derived.{AreDerived}
 use Rattle.ss_deriv.specs.declared.line.Line as code
 use Rattle.ss_sound.specs.Safe.{IsSafe}
 use Rattle.ss_sound.specs.Verdicts.{IfVerified}
-use Rattle.ss_search.specs.declared.answers.Verdict.{Verdict}
-use Rattle.ss_search.specs.declared.answers.Verdict.TheVariants as verdict
+use Rattle.ss_search_answers.specs.declared.answers.Verdict.{Verdict}
+use Rattle.ss_search_answers.specs.declared.answers.Verdict.TheVariants as verdict
 
 is_safe : (c : CoreTree) → IsFormed c → (os : List Obligation) (ds : List (List Line)) → os ≡ obligations c → AreDerived c.classes os ds → IsSafe c
 is_safe c formed os ds e h =

@@ -2,14 +2,14 @@
 use Rattle.std.specs.Prelude.{List, Result, Ok, Err}
 use Rattle.ss_core.specs.Tree.{ClassTree}
 use Rattle.ss_logic.specs.Formulas.{Formula}
-use Rattle.ss_logic_derivations.specs.Steps as tree
-use Rattle.ss_logic_derivations.specs.Steps.{Derives}
+use Rattle.ss_logic_means.specs.Steps as tree
+use Rattle.ss_logic_means.specs.Steps.{Derives}
 use Rattle.ss_vcgen_heaps.specs.Positions.{Obligation}
 use Rattle.ss_deriv.specs.declared.line.Line.{Line}
-use Rattle.ss_search.specs.Found.{IsRefutedBy, IsShort, IsOver}
-use Rattle.ss_search.specs.declared.answers.Options.{Options}
-use Rattle.ss_search.specs.declared.answers.Budget.{Budget}
-use Rattle.ss_search.specs.declared.answers.Budget.TheVariants as budget
+use Rattle.ss_search_answers.specs.Found.{IsRefutedBy, IsShort, IsOver}
+use Rattle.ss_search_answers.specs.declared.answers.Options.{Options}
+use Rattle.ss_search_answers.specs.declared.answers.Budget.{Budget}
+use Rattle.ss_search_answers.specs.declared.answers.Budget.TheVariants as budget
 use Rattle.ss_logic_countermodels.specs.declared.Countermodel.{Countermodel}
 use Rattle.ss_sound.specs.declared.decision.Decision.{Decision}
 use Rattle.ss_sound.specs.declared.decision.Decision.TheVariants as decision

@@ -1,21 +1,21 @@
 -- The answers of verification.
 use Rattle.std.specs.Prelude.{◌≡◌, ◌≢◌, ℕ, ◌<◌, ◌⊎◌, List, [], ◌∷◌, map, length, Option, Some, None, slice_get}
 use Rattle.ss_core.specs.Tree.{ClassTree}
-use Rattle.ss_logic_derivations.specs.Steps as tree
+use Rattle.ss_logic_means.specs.Steps as tree
 use Rattle.ss_vcgen_heaps.specs.Positions.{Obligation}
 use Rattle.ss_terms.specs.Forms.{Forms}
 use Rattle.ss_deriv.specs.declared.line.Line.{Line}
 use Rattle.ss_deriv.specs.Lines.{lines_of}
-use Rattle.ss_search.specs.declared.answers.Options.{Options}
-use Rattle.ss_search.specs.declared.answers.Countered.{Countered}
-use Rattle.ss_search.specs.declared.answers.Undecided.{Undecided}
-use Rattle.ss_search.specs.Found.{HasNoModelWithin}
-use Rattle.ss_search.specs.Listed.{countered_numbers, undecided_numbers, AreRisingFrom}
+use Rattle.ss_search_answers.specs.declared.answers.Options.{Options}
+use Rattle.ss_search_answers.specs.declared.answers.Countered.{Countered}
+use Rattle.ss_search_answers.specs.declared.answers.Undecided.{Undecided}
+use Rattle.ss_search_answers.specs.Found.{HasNoModelWithin}
+use Rattle.ss_search_answers.specs.Listed.{countered_numbers, undecided_numbers, AreRisingFrom}
 use Rattle.ss_sound.specs.Decided.{IsDerivedBy, IsCountered, IsOverBudget}
 use Rattle.ss_sound.specs.declared.decision.Decision.{Decision}
 use Rattle.ss_sound.specs.declared.decision.Decision.TheVariants as decision
-use Rattle.ss_search.specs.declared.answers.Verdict.{Verdict}
-use Rattle.ss_search.specs.declared.answers.Verdict.TheVariants as verdict
+use Rattle.ss_search_answers.specs.declared.answers.Verdict.{Verdict}
+use Rattle.ss_search_answers.specs.declared.answers.Verdict.TheVariants as verdict
 
 -- the derivations that lines over numbers of the bank stand for
 abbrev pub derivations_of : Forms → List (List Line) → List (List tree.Line)

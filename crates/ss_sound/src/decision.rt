@@ -4,20 +4,20 @@ ghost use Rattle.std.specs.Prelude.{◌≡◌, ◌∷◌, [], ◌≤◌, length}
 ghost use Rattle.ss_core.specs.View as view;
 ghost use Rattle.ss_core.specs.Chain.{IsWithinLimits};
 ghost use Rattle.ss_terms.specs.Forms.{formula_at, formulas_at, HasFormula, HasFormulas, IsBankOf, IsGrown};
-ghost use Rattle.ss_logic_derivations.specs.Steps.{Derives};
+ghost use Rattle.ss_logic_means.specs.Steps.{Derives};
 ghost use Rattle.ss_logic_means.specs.Scenes.{AreInvariants};
 ghost use Rattle.ss_logic_means.specs.Sorts.{AreWellFormed};
 ghost use Rattle.ss_deriv.specs.Lines.{lines_of};
 ghost use Rattle.ss_vcgen_builder.specs.Builder.{obligation_at, IsPlaced};
-ghost use Rattle.ss_search.specs.Found.{IsRefutedBy};
-ghost use Rattle.ss_vcgen_formed.specs.Formed.{IsWellFormed};
+ghost use Rattle.ss_search_answers.specs.Found.{IsRefutedBy};
+ghost use Rattle.ss_vcgen_safe.specs.Formed.{IsWellFormed};
 ghost use Rattle.ss_sound.specs.Decided.{IsDerivedBy, IsCountered, IsOverBudget, IsSpentOn, IfDerived, IfRefuted, IfOver};
 
 use ss_core::Core;
 use ss_deriv::Derivation;
 use ss_search::{Budget, Countermodel, Found, Options, Search};
 use ss_terms::{Bank, FormulaId, Obligation};
-use ss_vcgen::Listed;
+use ss_vcgen_builder::Listed;
 use std::alloc::AllocError;
 
 /// What was found of one obligation.

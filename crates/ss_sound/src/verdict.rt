@@ -6,10 +6,10 @@ ghost use Rattle.ss_core.specs.Chain.{IsWithinLimits};
 ghost use Rattle.ss_store_rules.specs.Formed.{IsFormed};
 ghost use Rattle.ss_vcgen_heaps.specs.Obligations as oblig;
 ghost use Rattle.ss_vcgen_safe.specs.Derived.{AreDerived};
-ghost use Rattle.ss_vcgen_formed.specs.Formed.{AreFormed};
+ghost use Rattle.ss_vcgen_safe.specs.Formed.{AreFormed};
 ghost use Rattle.ss_logic_means.specs.Scenes.{AreInvariants};
 ghost use Rattle.ss_vcgen_builder.specs.Builder.{obligations_at, AreWithin};
-ghost use Rattle.ss_vcgen.specs.Built.{trees, IsWithin};
+ghost use Rattle.ss_vcgen_builder.specs.Built.{trees, IsWithin};
 ghost use Rattle.ss_terms.specs.Forms.{IsBankOf, IsGrown, HasFormulas};
 ghost use Rattle.ss_sound.specs.Safe.{IsSafe};
 ghost use Rattle.ss_sound.specs.Verdicts.{AreDecided, IsUnproved, IsUndecided, AllHaveNoModelWithin, IsVerifiedOrMemory, IfVerified, IfUnproved, IfUndecided, derivations_of, derivations_in, countered_in, undecided_in};
@@ -19,7 +19,7 @@ use ss_core::Core;
 use ss_deriv::Derivation;
 use ss_search::{Countered, Options, Search, Undecided, Verdict};
 use ss_terms::{Bank, FormulaId};
-use ss_vcgen::{Listed, Obligations};
+use ss_vcgen_builder::{Listed, Obligations};
 use std::alloc::{AllocError, Global};
 
 /// What was found of the obligations so far.

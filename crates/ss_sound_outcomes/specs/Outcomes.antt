@@ -17,8 +17,8 @@ use Rattle.ss_machine_rules.specs.Frame.{Span, this_of, is_kept}
 use Rattle.ss_machine_rules.specs.States.{Target, ToCall, locals_at_entry, put, span}
 use Rattle.ss_machine_rules.specs.Steps.{values_of, all_hold, with_ready, result_local, result_value, held_by, are_exposed}
 use Rattle.ss_machine_rules.specs.Good.{IsGoodStore}
-use Rattle.ss_machine_good_frames.specs.Later.{IsLater}
-use Rattle.ss_machine_good_frames.specs.Frames.{IsAnswer}
+use Rattle.ss_machine_good.specs.Later.{IsLater}
+use Rattle.ss_machine_good.specs.LaterFrames.{IsAnswer}
 use Rattle.ss_logic.specs.Values.{Table}
 use Rattle.ss_vcgen_heaps.specs.Contracts.{called}
 use Rattle.ss_sound_outcomes.specs.Points.{Activation, Point, frame_at, scene, HasGrown, Fits, IsSound, entry_size, IsReached, IsBehind, ArePassed}

@@ -17,8 +17,8 @@ use Rattle.ss_store_rules.specs.NonNull.{is_non_null_type}
 use Rattle.ss_machine_typed.specs.Older.{IsOlder}
 use Rattle.ss_machine_typed.specs.Settings.{AreGoodArguments}
 use Rattle.ss_machine_good.specs.Known.{IsNotNull, WasReady, AreAssigned}
-use Rattle.ss_machine_good_frames.specs.Later.{IsLater}
-use Rattle.ss_machine_good_frames.specs.Frames.{HasGiven}
+use Rattle.ss_machine_good.specs.Later.{IsLater}
+use Rattle.ss_machine_good.specs.LaterFrames.{HasGiven}
 use Rattle.ss_logic.specs.Values.{reference, Table}
 
 -- A body that runs: the program, the body, the store at its entry, and the class and the length of each reference.

@@ -24,26 +24,26 @@ use Rattle.ss_machine_rules.specs.Good.{IsGoodStore}
 use Rattle.ss_machine_typed.specs.Changes.{NewObject}
 use Rattle.ss_machine_good.proofs.Frames.{frame_setting}
 use Rattle.ss_machine_good.proofs.Steps.{new_object_good}
-use Rattle.ss_machine_good_frames.specs.Frames.{entry_size, kept_in}
-use Rattle.ss_machine_good_frames.proofs.Later.{later_self}
-use Rattle.ss_machine_good_frames.proofs.Statements.{typed_here}
-use Rattle.ss_machine_good_runs.proofs.Calls.{method_number}
-use Rattle.ss_machine_good_runs.specs.Stacks.{IsGoodStack}
+use Rattle.ss_machine_good.specs.LaterFrames.{entry_size, kept_in}
+use Rattle.ss_machine_good.proofs.Later.{later_self}
+use Rattle.ss_machine_good.proofs.Statements.{typed_here}
+use Rattle.ss_machine_good.proofs.CallsOfRuns.{method_number}
+use Rattle.ss_machine_good.specs.Stacks.{IsGoodStack}
 use Rattle.ss_logic.specs.Values.{Table}
 use Rattle.ss_vcgen_heaps.specs.Contracts.{seen, called}
 use Rattle.ss_sound_outcomes.specs.Points.{HasGrown, Fits, IsSound, ArePassed}
 use Rattle.ss_sound_outcomes.specs.Outcomes.{IsReturn, CallsSafely, IsObject, ConstructsSafely, Safely, AllRunSafely}
-use Rattle.ss_sound_steps.specs.Frames.{activation_of, point_of}
-use Rattle.ss_sound_steps.specs.Passed.{IsPassed}
-use Rattle.ss_sound_steps.proofs.Grown.{grown_self, grown_trans, grown_change}
-use Rattle.ss_sound_steps.proofs.Tables.{fits_before, good_table}
-use Rattle.ss_sound_steps.proofs.Points.{sound_point}
-use Rattle.ss_sound_steps.proofs.Behind.{call_behind, new_behind}
-use Rattle.ss_sound_steps.proofs.Passed.{static_passed, dispatched_passed, base_passed, constructor_passed, new_passed}
-use Rattle.ss_sound_contracts.specs.Served.{Serves, IsCalledOn}
-use Rattle.ss_sound_contracts.proofs.Passed.{passed_at_entry}
-use Rattle.ss_sound_contracts.proofs.Served.{entered, returned_as_seen}
-use Rattle.ss_sound_contracts.proofs.Serving.{serves}
+use Rattle.ss_sound_runs.specs.Frames.{activation_of, point_of}
+use Rattle.ss_sound_runs.specs.Passed.{IsPassed}
+use Rattle.ss_sound_runs.proofs.Grown.{grown_self, grown_trans, grown_change}
+use Rattle.ss_sound_runs.proofs.Tables.{fits_before, good_table}
+use Rattle.ss_sound_runs.proofs.Points.{sound_point}
+use Rattle.ss_sound_runs.proofs.Behind.{call_behind, new_behind}
+use Rattle.ss_sound_runs.proofs.StepsPassed.{static_passed, dispatched_passed, base_passed, constructor_passed, new_passed}
+use Rattle.ss_sound_runs.specs.Served.{Serves, IsCalledOn}
+use Rattle.ss_sound_runs.proofs.Passed.{passed_at_entry}
+use Rattle.ss_sound_runs.proofs.Served.{entered, returned_as_seen}
+use Rattle.ss_sound_runs.proofs.Serving.{serves}
 use Rattle.ss_sound_runs.specs.Stacks.{LeftSafely, Stands, behind_return, AllWaitSafely, StepsSafely}
 use Rattle.ss_sound_runs.proofs.Left.{left_all}
 use Rattle.ss_sound_runs.proofs.Steps.{fitting_table, targets_here, all_wait_on, value_steps, values_steps, holds_steps}

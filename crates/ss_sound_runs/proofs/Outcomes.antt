@@ -19,7 +19,7 @@ use Rattle.ss_store_rules.specs.Typed.{constructor_of}
 use Rattle.ss_machine_rules.specs.Frame.{this_of}
 use Rattle.ss_machine_rules.specs.States.{put}
 use Rattle.ss_machine_rules.specs.Steps.{values_of, with_ready}
-use Rattle.ss_machine_good_frames.proofs.Later.{later_self, later_trans, later_new_object}
+use Rattle.ss_machine_good.proofs.Later.{later_self, later_trans, later_new_object}
 use Rattle.ss_vcgen_heaps.specs.Contracts.{called}
 use Rattle.ss_sound_outcomes.specs.Points.{Activation, Point, scene, IsSound, entry_size, IsReached}
 use Rattle.ss_sound_outcomes.specs.Outcomes.{Has, GoesOn, with_local, with_store, Changes, CallsSafely, Calls, ConstructsSafely, Constructs, IsTurn, Safely, AllSafely}

@@ -17,22 +17,22 @@ use Rattle.ss_machine_rules.specs.States.{Due, Statement, Target, ToCall, ToNew,
 use Rattle.ss_machine_rules.specs.Steps as steps
 use Rattle.ss_machine_rules.specs.Steps.{result_local}
 use Rattle.ss_machine_good.proofs.Frames.{some_argument}
-use Rattle.ss_machine_good_frames.specs.Frames.{HasGiven, IsToNew, IsGoodFrame, constructed, kept_in, IsAnswer}
-use Rattle.ss_machine_good_frames.proofs.Behind.{constructor_instance, put_this}
-use Rattle.ss_machine_good_runs.specs.Stacks.{IsGoodStack}
-use Rattle.ss_machine_good_runs.proofs.Calls.{constructs_this}
+use Rattle.ss_machine_good.specs.LaterFrames.{HasGiven, IsToNew, IsGoodFrame, constructed, kept_in, IsAnswer}
+use Rattle.ss_machine_good.proofs.Behind.{constructor_instance, put_this}
+use Rattle.ss_machine_good.specs.Stacks.{IsGoodStack}
+use Rattle.ss_machine_good.proofs.CallsOfRuns.{constructs_this}
 use Rattle.ss_logic.specs.Values.{Table}
 use Rattle.ss_sound_outcomes.specs.Points.{Fits}
 use Rattle.ss_sound_outcomes.specs.Outcomes.{IsReturn, Safely}
-use Rattle.ss_sound_steps.specs.Frames.{activation_of, point_of}
-use Rattle.ss_sound_steps.proofs.Grown.{grown_trans}
-use Rattle.ss_sound_steps.proofs.Tables.{fits_before}
-use Rattle.ss_sound_steps.proofs.Points.{sound_point}
-use Rattle.ss_sound_steps.proofs.Answers.{answered}
-use Rattle.ss_sound_contracts.specs.Served.{HasArguments}
-use Rattle.ss_sound_contracts.proofs.Exits.{exits_read}
-use Rattle.ss_sound_contracts.proofs.Passed.{passed_on}
-use Rattle.ss_sound_contracts.proofs.Spans.{frames_read}
+use Rattle.ss_sound_runs.specs.Frames.{activation_of, point_of}
+use Rattle.ss_sound_runs.proofs.Grown.{grown_trans}
+use Rattle.ss_sound_runs.proofs.Tables.{fits_before}
+use Rattle.ss_sound_runs.proofs.Points.{sound_point}
+use Rattle.ss_sound_runs.proofs.Answers.{answered}
+use Rattle.ss_sound_runs.specs.Served.{HasArguments}
+use Rattle.ss_sound_runs.proofs.Exits.{exits_read}
+use Rattle.ss_sound_runs.proofs.Passed.{passed_on}
+use Rattle.ss_sound_runs.proofs.Spans.{frames_read}
 use Rattle.ss_sound_runs.specs.Stacks.{LeftSafely, Stands, WaitsSafely, AllWaitSafely, StepsSafely}
 use Rattle.ss_sound_runs.proofs.Steps.{fitting_table, all_wait_on, value_steps, holds_steps}
 

@@ -18,17 +18,17 @@ use Rattle.ss_machine_rules.specs.Good.{IsUnfailed}
 use Rattle.ss_machine_typed.specs.Inputs.{IsInput}
 use Rattle.ss_machine_typed.proofs.First.{main_locals}
 use Rattle.ss_machine_good.proofs.Start.{argument_not_null, static_arguments}
-use Rattle.ss_machine_good_runs.specs.Stacks.{IsGoodStack, HasGoodStack}
-use Rattle.ss_machine_good_runs.proofs.Entering.{first_get}
-use Rattle.ss_machine_good_runs.proofs.Runs.{step_good, start_stack, run_stack}
+use Rattle.ss_machine_good.specs.Stacks.{IsGoodStack, HasGoodStack}
+use Rattle.ss_machine_good.proofs.Entering.{first_get}
+use Rattle.ss_machine_good.proofs.Runs.{step_good, start_stack, run_stack}
 use Rattle.ss_logic.specs.Values.{Table}
 use Rattle.ss_sound_outcomes.specs.Points.{Fits, ArePassed}
 use Rattle.ss_sound_outcomes.specs.Outcomes.{AllRunSafely}
-use Rattle.ss_sound_steps.specs.Frames.{activation_of, point_of}
-use Rattle.ss_sound_steps.proofs.Grown.{grown_self, grown_step}
-use Rattle.ss_sound_steps.proofs.Points.{sound_point}
-use Rattle.ss_sound_steps.proofs.Later.{step_later}
-use Rattle.ss_sound_contracts.proofs.Passed.{passed_at_entry}
+use Rattle.ss_sound_runs.specs.Frames.{activation_of, point_of}
+use Rattle.ss_sound_runs.proofs.Grown.{grown_self, grown_step}
+use Rattle.ss_sound_runs.proofs.Points.{sound_point}
+use Rattle.ss_sound_runs.proofs.Later.{step_later}
+use Rattle.ss_sound_runs.proofs.Passed.{passed_at_entry}
 use Rattle.ss_sound_runs.specs.Stacks.{LeftSafely, Stands, AllWaitSafely, IsSafeStack, HasSafeStack, StepsSafely}
 use Rattle.ss_sound_runs.proofs.Left.{left_all}
 use Rattle.ss_sound_runs.proofs.Steps.{fitting_table, ActsSafely, stays_steps, test_steps}

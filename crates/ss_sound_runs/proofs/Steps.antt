@@ -22,19 +22,19 @@ use Rattle.ss_machine_rules.specs.States.{Due, Statement, Test, dues, Target, Fr
 use Rattle.ss_machine_rules.specs.Steps as steps
 use Rattle.ss_machine_good.specs.Flows.{is_simple}
 use Rattle.ss_machine_good.specs.Frames.{all_left}
-use Rattle.ss_machine_good_frames.proofs.Later.{later_trans}
-use Rattle.ss_machine_good_frames.specs.Frames.{IsGoodFrame, entry_size}
-use Rattle.ss_machine_good_runs.specs.Stacks.{IsGoodStack}
+use Rattle.ss_machine_good.proofs.Later.{later_trans}
+use Rattle.ss_machine_good.specs.LaterFrames.{IsGoodFrame, entry_size}
+use Rattle.ss_machine_good.specs.Stacks.{IsGoodStack}
 use Rattle.ss_logic.specs.Values.{Table}
 use Rattle.ss_sound_outcomes.specs.Points.{HasGrown, Fits, IsSound, IsBehind}
 use Rattle.ss_sound_outcomes.specs.Outcomes.{Has, GoesOn, with_local, with_store, Changes, HoldsAtHead, head_of, Safely, AllSafely}
-use Rattle.ss_sound_steps.specs.Frames.{activation_of, point_of, AreLater}
-use Rattle.ss_sound_steps.proofs.Grown.{grown_trans}
-use Rattle.ss_sound_steps.proofs.Tables.{fits_before, good_table}
-use Rattle.ss_sound_steps.proofs.Points.{sound_point}
-use Rattle.ss_sound_steps.proofs.Statements.{statement_behind}
-use Rattle.ss_sound_contracts.specs.Served.{HasArguments}
-use Rattle.ss_sound_contracts.proofs.Passed.{passed_on}
+use Rattle.ss_sound_runs.specs.Frames.{activation_of, point_of, AreLater}
+use Rattle.ss_sound_runs.proofs.Grown.{grown_trans}
+use Rattle.ss_sound_runs.proofs.Tables.{fits_before, good_table}
+use Rattle.ss_sound_runs.proofs.Points.{sound_point}
+use Rattle.ss_sound_runs.proofs.Statements.{statement_behind}
+use Rattle.ss_sound_runs.specs.Served.{HasArguments}
+use Rattle.ss_sound_runs.proofs.Passed.{passed_on}
 use Rattle.ss_sound_runs.specs.Stacks.{TestedSafely, LeftSafely, Stands, AllWaitSafely, StepsSafely}
 use Rattle.ss_sound_runs.proofs.Outcomes.{turns_safely}
 use Rattle.ss_sound_runs.proofs.Left.{left_before, left_between}

@@ -1,1 +1,4 @@
 pub mod Stacks
+pub mod Served
+pub mod Frames
+pub mod Passed

@@ -9,14 +9,14 @@ use Rattle.ss_store_rules.specs.Locals.{is_variable, is_kept_among}
 use Rattle.ss_machine_rules.specs.Frame.{this_of}
 use Rattle.ss_machine_rules.specs.States.{Due, Statement, Test, Target, ToCall, ToNew, Frame, State, Running, Done, Failed, Stopped, Next, Goes, Over, Fails, Stops}
 use Rattle.ss_machine_rules.specs.Steps.{with_ready}
-use Rattle.ss_machine_good_frames.specs.Later.{IsLater}
-use Rattle.ss_machine_good_frames.specs.Frames.{entry_size, kept_in}
-use Rattle.ss_machine_good_runs.specs.Stacks.{IsGoodStack}
+use Rattle.ss_machine_good.specs.Later.{IsLater}
+use Rattle.ss_machine_good.specs.LaterFrames.{entry_size, kept_in}
+use Rattle.ss_machine_good.specs.Stacks.{IsGoodStack}
 use Rattle.ss_logic.specs.Values.{Table}
 use Rattle.ss_sound_outcomes.specs.Points.{Activation, Point, scene, HasGrown, Fits, IsSound}
 use Rattle.ss_sound_outcomes.specs.Outcomes.{Has, with_local, with_store, IsReturn, Safely, AllSafely}
-use Rattle.ss_sound_steps.specs.Frames.{activation_of, point_of, AreLater}
-use Rattle.ss_sound_contracts.specs.Served.{HasArguments}
+use Rattle.ss_sound_runs.specs.Frames.{activation_of, point_of, AreLater}
+use Rattle.ss_sound_runs.specs.Served.{HasArguments}
 
 -- ---- what is left of a body
 

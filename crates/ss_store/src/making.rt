@@ -11,7 +11,7 @@ ghost use Rattle.ss_store.specs.Room.{IsRoomy};
 use crate::fields::push_fields;
 use crate::object::{Object, Slot};
 use crate::store::Store;
-use ss_core::{ClassId, Classes, MOST_FIELDS};
+use ss_core::{ClassId, Classes, MOST_FIELDS, Ty};
 use ss_store_rules::{Owner, Value};
 use std::alloc::{AllocError, Global};
 
@@ -34,10 +34,10 @@ impl From<AllocError> for NewStop {
 fn default_element(t: ClassId) -> Value
     ensures { result ≡ default_value (element_type t.0) }
 {
-    match t.0 {
-        1 => Value::Int(0),
-        2 => Value::Bool(false),
-        _ => Value::Null,
+    match t.element_type() {
+        Ty::Int => Value::Int(0),
+        Ty::Bool => Value::Bool(false),
+        Ty::Null | Ty::Ref { .. } => Value::Null,
     }
 }
 

@@ -9,6 +9,7 @@ use Rattle.ss_core.specs.declared.names.Ty.{Ty}
 use Rattle.ss_core.specs.declared.names.Ty.TheVariants as ty
 use Rattle.ss_core.specs.Tree.{ClassTree}
 unfoldable pub use Rattle.ss_core.specs.Chain.{below}
+pub use Rattle.ss_core.specs.Kinds.{element_type}
 use Rattle.ss_core.specs.Chain.{is_declared, above, levels, DeclaredField, all_fields}
 use Rattle.ss_store_rules.specs.declared.Value.{Value}
 use Rattle.ss_store_rules.specs.declared.Value.TheVariants as value
@@ -23,14 +24,6 @@ use Rattle.ss_store_rules.specs.Reads.{same_owner, is_in_group, is_pair}
 -- `int[]`, `bool[]`, `object[]`, or the array of a declared class
 abbrev pub is_array : List ClassTree → ℕ → Bool
 is_array cs t = t == 1 || t == 2 || t == 3 || is_declared cs (t - 1)
-
--- what the elements of an array of the class are
-abbrev pub element_type : ℕ → Ty
-element_type t =
-    if t == 1 then ty.Int
-    else if t == 2 then ty.Bool
-    else if t == 3 then ty.Ref (record { 0 = 0 }) false
-    else ty.Ref (record { 0 = t - 1 }) false
 
 -- The class that declares a field, its mark and its type. A number of no field counts as a field of `object`.
 abbrev pub class_of_field : Option DeclaredField → ℕ

@@ -81,8 +81,13 @@ pub record StandsFor (from to : BodyTree) : Type 0 where
   pub more : List ExprTree
   pub exit : normal_exit to ≡ normal_exit from ++ more
 
+abbrev pub is_level : DefaultTree → Bool
+is_level (AtLevel t) = true
+is_level d = false
+
+-- the condition that `this` is at a level
 abbrev pub is_at_level : ExprTree → Bool
-is_at_level (DefaultExpr p (AtLevel t)) = true
+is_at_level (DefaultExpr p d) = is_level d
 is_at_level e = false
 
 -- a body that says nothing of level 1 serves the classes below too

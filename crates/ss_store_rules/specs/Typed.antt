@@ -7,6 +7,7 @@ use Rattle.ss_core.specs.declared.names.Ty.{Ty}
 use Rattle.ss_core.specs.declared.names.Ty.TheVariants as ty
 use Rattle.ss_core.specs.Tree.{ClassTree, FieldTree, EntryTree, LocalTree, DefaultTree, AtLevel, Unpacked, ThisUnowned, Defaults, OwnedFull, Full, ConsistentArgument, FullArgument, Captured, ExprTree, DefaultExpr, CalleeTree, Dispatched, Static, Base, BaseConstructor, ExposedTree, StmtTree, AssignStmt, WriteStmt, WriteElementStmt, NewStmt, NewArrayStmt, CallStmt, ReadyStmt, IfStmt, LoopStmt, UnpackStmt, PackStmt, AssertStmt, AssumeStmt, PrintStmt, PrintTextStmt, ReturnStmt, NamedTree, FieldOf, AllOf, ElementsOf, UptoOf, BodyTree, CoreTree}
 use Rattle.ss_core.specs.Chain.{is_declared, declared, above, is_type, DeclaredField, all_fields}
+pub use Rattle.ss_core.specs.Chain.{table_of, table}
 use Rattle.ss_store_rules.specs.Changes.{below, is_array}
 use Rattle.ss_store_rules.specs.Admissible.{is_this}
 use Rattle.ss_store_rules.specs.Locals.{types_of, local_types, is_argument, is_result, is_bound, reads_only}
@@ -48,14 +49,6 @@ constructor_of c t = find (is_constructor_of t) c.bodies
 
 abbrev pub is_instance_method : BodyTree → Bool
 is_instance_method b = not b.flags.is_static && not b.flags.ctor
-
-abbrev pub table_of : Option ClassTree → List EntryTree
-table_of None = []
-table_of (Some c) = c.table
-
--- the table of methods of a class; one that isn't declared has none
-abbrev pub table : List ClassTree → ℕ → List EntryTree
-table cs t = table_of (declared cs t)
 
 -- the body at this place of the table of the class
 abbrev pub method_at : CoreTree → ℕ → ℕ → Option BodyTree

@@ -2,6 +2,7 @@
 use Rattle.std.specs.Prelude.{ℕ, ◌-◌, ◌==◌, Bool, false, List, Option, Some, None, option_map, if◌then◌else◌}
 use Rattle.ss_core.specs.declared.names.Ty.{Ty}
 use Rattle.ss_core.specs.declared.names.Ty.TheVariants as ty
+use Rattle.ss_core.specs.Kinds as kinds
 use Rattle.ss_ast.specs.Expressions.{TypeNameTree, IntType, BoolType, ObjectType, ClassType, TypeTree}
 use Rattle.ss_ast.specs.Programs.{ClassTree}
 use Rattle.ss_tables.specs.Classes.{class_named, class_number, array_number, is_array_number}
@@ -37,7 +38,7 @@ class_of (ty.Ref t non_null) = Some t.0
 abbrev pub element_type : ℕ → Option Ty
 element_type t =
     if is_array_number t
-    then Some (if t == 1 then ty.Int else if t == 2 then ty.Bool else if t == 3 then reference false 0 else reference false (t - 1))
+    then Some (kinds.element_type t)
     else None
 
 -- the same with null

@@ -4,7 +4,7 @@ ghost use Rattle.std.specs.Prelude.{◌≡◌, option_map};
 ghost use Rattle.ss_tables.specs.Types.{class_of, element_type, nullable};
 ghost use Rattle.ss_tables_lookup.specs.Views.{type_of};
 
-use ss_core::is_array_number;
+use ss_core::ClassKind;
 
 /// A static type. A class is told by its number: 0 is `object`, 1 `int[]`, 2 `bool[]`, 3 `object[]`; the declared class at
 /// place `k` has `4 + 2 k`, and its array `5 + 2 k`.
@@ -45,19 +45,15 @@ pub fn nullable(ty: StaticType) -> StaticType
 pub fn element_type(class: usize) -> Option<StaticType>
     ensures { option_map type_of result ≡ element_type class }
 {
-    if !is_array_number(class) {
-        return None;
-    }
-    Some(match class {
-        1 => StaticType::Int,
-        2 => StaticType::Bool,
-        3 => StaticType::Ref {
-            class: 0,
-            non_null: false,
-        },
-        _ => StaticType::Ref {
-            class: class - 1,
-            non_null: false,
-        },
+    let class = match ClassKind::of(class) {
+        ClassKind::Object | ClassKind::Declared(_) => return None,
+        ClassKind::Ints => return Some(StaticType::Int),
+        ClassKind::Bools => return Some(StaticType::Bool),
+        ClassKind::Objects => 0,
+        ClassKind::ArrayOf(_) => class - 1,
+    };
+    Some(StaticType::Ref {
+        class,
+        non_null: false,
     })
 }

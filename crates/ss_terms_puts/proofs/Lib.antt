@@ -1,1 +1,5 @@
 pub mod Putting
+pub mod Values
+pub mod Lifting
+pub mod Tables
+pub mod Rising

@@ -3,7 +3,7 @@
 ghost use Rattle.std.specs.Prelude.{◌≡◌, ℕ, Some, Err, OnOk};
 ghost use Rattle.ss_core.specs.View as view;
 ghost use Rattle.ss_core.specs.Chain.{IsWithinLimits};
-ghost use Rattle.ss_logic_derivations.specs.Steps.{Derives, first_bad};
+ghost use Rattle.ss_logic_means.specs.Steps.{Derives, first_bad};
 ghost use Rattle.ss_terms.specs.Forms.{formula_at, formulas_at, HasFormula, HasFormulas, IsBankOf};
 ghost use Rattle.ss_deriv.specs.Lines.{lines_of};
 

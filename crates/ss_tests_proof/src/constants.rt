@@ -2,7 +2,7 @@
 
 use ss_logic::Sort;
 use ss_terms::{Bank, FormulaId};
-use ss_terms_avoids::{are_constants, are_new};
+use ss_terms_puts::{are_constants, are_new};
 use ss_tests_reader::{Reader, has_formulas, has_terms};
 use std::alloc::{AllocError, Global};
 use std::test::Fail;

@@ -1,7 +1,6 @@
 // The words of terms, formulas and rules, as docs/OBLIGATIONS.md has them.
 
-use ss_logic::Sort;
-use ss_logic_rules::{GoodRule, RuleName as EveryRule};
+use ss_logic::{GoodRule, RuleName as EveryRule, Sort};
 use ss_rules::RuleName;
 use ss_terms::{Predicate, Symbol};
 

@@ -2,10 +2,21 @@
 
 use crate::program::{Program, read_programs};
 use ss_io::{MemFiles, MemSink};
-use ss_top::specsharp;
 use std::alloc::{AllocError, Global};
 use std::rt::{Env, Files};
 use std::{env, fs, io, str};
+
+/// A command that is tried over files in memory.
+pub trait Command {
+    /// The number of the status with which it answers these words.
+    fn answer(
+        &self,
+        alloc: Global,
+        words: &[String],
+        files: &mut MemFiles,
+        out: &mut MemSink,
+    ) -> u8;
+}
 
 /// Whether a line of the verdict says that the check isn't proved, or that it is undecided.
 fn is_listed(verdict: &str, check: &str) -> bool {
@@ -44,7 +55,11 @@ fn is_expected(program: &Program, number: u8, verdict: &str) -> bool {
 }
 
 /// What `verify` answers where that isn't what is expected: the number of the status, and the verdict.
-fn difference(alloc: Global, program: &Program) -> Result<Option<(u8, String)>, AllocError> {
+fn difference<C: Command>(
+    alloc: Global,
+    command: &C,
+    program: &Program,
+) -> Result<Option<(u8, String)>, AllocError> {
     let verify = String::from_str(alloc, "verify")?;
     let name = String::from_str(alloc, "FILE")?;
     let words = vec![in alloc; verify, name]?;
@@ -52,7 +67,7 @@ fn difference(alloc: Global, program: &Program) -> Result<Option<(u8, String)>, 
     let source = program.source.as_slice().to_vec(alloc)?;
     let mut files = MemFiles::new(alloc, vec![in alloc; (named, source)]?, Vec::new(alloc));
     let mut out = MemSink::new(alloc, Vec::new(alloc));
-    let number = specsharp(alloc, &words, &mut files, &mut out).number();
+    let number = command.answer(alloc, &words, &mut files, &mut out);
     let verdict = str::from_utf8(out.bytes()).unwrap_or("");
     if is_expected(program, number, verdict) {
         return Ok(None);
@@ -61,13 +76,17 @@ fn difference(alloc: Global, program: &Program) -> Result<Option<(u8, String)>, 
 }
 
 /// Verifies the programs of a file.
-fn try_file<R: Print + Files + AllocGlobal>(rt: &R, name: &str) -> io::Result<()> {
+fn try_file<R: Print + Files + AllocGlobal, C: Command>(
+    rt: &R,
+    command: &C,
+    name: &str,
+) -> io::Result<()> {
     let alloc = rt.alloc();
     let text = fs::read_to_string(rt, name)?;
     let programs = read_programs(alloc, &text)?;
     let mut held = 0usize;
     for program in &programs {
-        match difference(alloc, program)? {
+        match difference(alloc, command, program)? {
             None => held = held.saturating_add(1),
             Some((number, verdict)) => {
                 let program_name = &program.name;
@@ -81,9 +100,12 @@ fn try_file<R: Print + Files + AllocGlobal>(rt: &R, name: &str) -> io::Result<()
 }
 
 /// Verifies the programs of each file that is named behind the program's name, and says how many are answered as expected.
-pub fn try_all<R: Print + Files + Env + AllocGlobal>(rt: &R) -> io::Result<()> {
+pub fn try_all<R: Print + Files + Env + AllocGlobal, C: Command>(
+    rt: &R,
+    command: &C,
+) -> io::Result<()> {
     for name in env::args(rt)?.skip(1) {
-        try_file(rt, &name)?;
+        try_file(rt, command, &name)?;
     }
     Ok(())
 }

@@ -1,7 +1,7 @@
-//! Programs with what is expected of `verify`: which it proves, and checks that it leaves unproved.
+//! Programs with what is expected of `verify`, tried by a command: which it proves, and checks that it leaves unproved.
 #![tactic(auto)]
 
 mod files;
 mod program;
 
-pub use files::try_all;
+pub use files::{Command, try_all};

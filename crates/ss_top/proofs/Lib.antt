@@ -1,4 +1,3 @@
-pub mod Limits
 pub mod Meanings
 pub mod Ran
 pub mod Whole

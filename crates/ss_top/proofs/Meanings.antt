@@ -5,7 +5,7 @@ use Rattle.ss_core.specs.Tree.{CoreTree}
 use Rattle.ss_expand_rules.specs.Elaborated.{elaborated}
 use Rattle.ss_top_sources.specs.Sources.{IsRefused}
 use Rattle.ss_top_sources.proofs.Meanings as front
-use Rattle.ss_top.specs.Sources.{Means}
+use Rattle.ss_top_sources.specs.CoreSources.{Means}
 
 pub one_core : (source : List ℕ) (c d : CoreTree) → Means source c → Means source d → c ≡ d
 one_core source c d m n =

@@ -8,8 +8,8 @@ use Rattle.ss_store_rules.specs.Admitted.{admitted}
 use Rattle.ss_machine_rules.specs.Runs.{run, printed}
 use Rattle.ss_machine_rules.specs.Ends.{IsRunning, IsDoneAt, HasFailed, HasStopped}
 use Rattle.ss_machine_typed.specs.Inputs.{IsInput}
-use Rattle.ss_machine_good_runs.proofs.Runs.{run_good}
-use Rattle.ss_top.specs.Sources.{Means}
+use Rattle.ss_machine_good.proofs.Runs.{run_good}
+use Rattle.ss_top_sources.specs.CoreSources.{Means}
 use Rattle.ss_top.specs.Runs.{HasRun, RunsOn, StopsAt, FailsAt, IsNotAdmitted, RunsInPart}
 
 pub has_run : (c : CoreTree) (k steps : ℕ) (input : List ℤ) (old new : Option (List ℕ)) (source : List ℕ) → Means source c → admitted c input ≡ true → IsInput input → IsDoneAt c input k steps → Grew old new (printed c input steps) → HasRun steps input old new source

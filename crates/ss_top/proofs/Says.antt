@@ -14,11 +14,11 @@ use Rattle.ss_machine_rules.specs.Good.{IsUnfailed}
 use Rattle.ss_machine_typed.specs.Inputs.{IsInput}
 use Rattle.ss_vcgen_heaps.specs.Positions.{Obligation}
 use Rattle.ss_vcgen_heaps.specs.Obligations.{obligations}
-use Rattle.ss_search.specs.declared.answers.Countered.{Countered}
-use Rattle.ss_search.specs.declared.answers.Undecided.{Undecided}
-use Rattle.ss_search.specs.declared.answers.Verdict.{Verdict}
-use Rattle.ss_search.specs.declared.answers.Verdict.TheVariants as found
-use Rattle.ss_search.specs.Listed.{countered_numbers, countered_of, undecided_numbers, undecided_of, AreRisingFrom}
+use Rattle.ss_search_answers.specs.declared.answers.Countered.{Countered}
+use Rattle.ss_search_answers.specs.declared.answers.Undecided.{Undecided}
+use Rattle.ss_search_answers.specs.declared.answers.Verdict.{Verdict}
+use Rattle.ss_search_answers.specs.declared.answers.Verdict.TheVariants as found
+use Rattle.ss_search_answers.specs.Listed.{countered_numbers, countered_of, undecided_numbers, undecided_of, AreRisingFrom}
 use Rattle.ss_sound.specs.Safe.{IsSafe}
 use Rattle.ss_sound.specs.Verdicts as sound
 use Rattle.ss_sound.specs.Verdicts.{IsUnproved, IsUndecided, AllHaveNoModelWithin}
@@ -38,12 +38,11 @@ use Rattle.ss_top_sources.specs.Sources as reading
 use Rattle.ss_top_sources.specs.Sources.{IsAccepted, IsRefused}
 use Rattle.ss_top.specs.declared.source.Goal.{Goal}
 use Rattle.ss_top.specs.declared.source.Goal.TheVariants as asked_for
-use Rattle.ss_top.specs.Sources.{Means, Gives}
+use Rattle.ss_top_sources.specs.CoreSources.{Means, Gives}
 use Rattle.ss_top_words.specs.Words.{Asked}
 use Rattle.ss_top.specs.Runs.{HasRun, FailsAt}
 use Rattle.ss_top.specs.Answers.{OfSource, OfFile, options_of, IsHeadline, IsToldVerified, IsExpanded, IsToldUnproved, IsToldUndecided, AreListed, IsListed, answer_of, IsVerifiedInPart, IsToldInPart, IsExpandedInPart, IsWrittenInPart, IsVerify, IsRun, IsRunUnverified, IsExpand, Verifies, command_of_goal, IfRefused, IfUnproved, IfUndecided, IfStopped, IfFailed, ReadsOnly, IsVerified, IsSilent, IsWithinReach, WhereWithinReach, Concludes, HasEnded, IsSpent, IsStopped, IsUnadmitted, Says, answer_to}
-use Rattle.ss_store_rules.specs.Formed.{IsFormed}
-use Rattle.ss_top.proofs.Limits.{accepted_formed}
+use Rattle.ss_top_sources.proofs.Means.{means}
 use Rattle.ss_top.proofs.Meanings.{one_core, no_fault}
 use Rattle.ss_top.proofs.Whole.{OfSource-map}
 
@@ -52,9 +51,6 @@ told_verified c old new source means safe took = record { program = c; means = m
 
 pub verified_in_part : (c : CoreTree) (old new : Option (List ℕ)) (source : List ℕ) → Means source c → IsSafe c → GrewByFront old new verified_line → IsVerifiedInPart old new source
 verified_in_part c old new source means safe front = record { program = c; means = means; safe = safe; front = front }
-
-pub means : (source : List ℕ) (ts : List Tok) (p : TypedTree) (c : CoreTree) → IsAccepted source ts p → c ≡ elaborated p → Means source c
-means source ts p c a e = record { tokens = ts; program = p; accepted = a; core = sym e; formed = subst IsFormed (sym e) (accepted_formed source ts p a) }
 
 pub expanded : (source : List ℕ) (ts : List Tok) (p : TypedTree) (c : CoreTree) (text : List ℕ) (old new : Option (List ℕ)) → IsAccepted source ts p → c ≡ elaborated p → text ≡ core_text c → Grew old new text → IsExpanded old new source
 expanded source ts p c text old new a e is took = record { program = c; means = means source ts p c a e; took = subst (λ t. Grew old new t) is took }

@@ -15,7 +15,7 @@ use Rattle.ss_top_words.specs.declared.Limits.{Limits}
 use Rattle.ss_top_words.specs.declared.Command.{Command}
 use Rattle.ss_top_words.specs.declared.Command.TheVariants as command
 use Rattle.ss_top_sources.specs.Sources.{IsNoProgram, IsFaulty, IsRefused}
-use Rattle.ss_top.specs.Sources.{Means}
+use Rattle.ss_top_sources.specs.CoreSources.{Means}
 use Rattle.ss_top.specs.Runs.{HasRun, RunsOn, StopsAt, FailsAt, IsNotAdmitted, RunsInPart}
 use Rattle.ss_top.specs.Answers.{OfSource, IsHeadline, IsToldVerified, IsToldUnproved, IsToldUndecided, IsExpanded, IsVerifiedInPart, IsToldInPart, IsExpandedInPart, IsWrittenInPart, HasEnded, IsSpent, IsStopped, IsUnadmitted, Says}
 

@@ -8,11 +8,11 @@ use Rattle.ss_core.specs.declared.names.FrontStop.{FrontStop}
 use Rattle.ss_core.specs.declared.names.FrontStop.TheVariants as front
 use Rattle.ss_core.specs.Tree.{CoreTree}
 use Rattle.ss_vcgen_heaps.specs.Obligations.{obligations}
-use Rattle.ss_search.specs.declared.answers.Countered.{Countered}
-use Rattle.ss_search.specs.declared.answers.Undecided.{Undecided}
-use Rattle.ss_search.specs.declared.answers.Options.{Options}
-use Rattle.ss_search.specs.declared.answers.Verdict.{Verdict}
-use Rattle.ss_search.specs.declared.answers.Verdict.TheVariants as found
+use Rattle.ss_search_answers.specs.declared.answers.Countered.{Countered}
+use Rattle.ss_search_answers.specs.declared.answers.Undecided.{Undecided}
+use Rattle.ss_search_answers.specs.declared.answers.Options.{Options}
+use Rattle.ss_search_answers.specs.declared.answers.Verdict.{Verdict}
+use Rattle.ss_search_answers.specs.declared.answers.Verdict.TheVariants as found
 use Rattle.ss_sound.specs.Safe.{IsSafe}
 use Rattle.ss_sound.specs.Verdicts.{IsUnproved, IsUndecided, AllHaveNoModelWithin}
 use Rattle.ss_report.specs.declared.status.Status.{Status}
@@ -27,7 +27,7 @@ use Rattle.ss_top_words.specs.declared.Command.TheVariants as command
 use Rattle.ss_top.specs.declared.source.Goal.{Goal}
 use Rattle.ss_top.specs.declared.source.Goal.TheVariants as goal
 use Rattle.ss_top_sources.specs.Sources.{IsRefused}
-use Rattle.ss_top.specs.Sources.{Means}
+use Rattle.ss_top_sources.specs.CoreSources.{Means}
 use Rattle.ss_top.specs.Runs.{HasRun, RunsOn, StopsAt, FailsAt, IsNotAdmitted, RunsInPart}
 
 -- what the words ask for

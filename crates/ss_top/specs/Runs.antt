@@ -8,7 +8,7 @@ use Rattle.ss_store_rules.specs.Admitted.{admitted}
 use Rattle.ss_machine_rules.specs.Runs.{run, printed}
 use Rattle.ss_machine_rules.specs.Good.{IsGoodState}
 use Rattle.ss_machine_rules.specs.Ends.{IsRunning, IsDoneWith, HasFailed, HasStopped}
-use Rattle.ss_top.specs.Sources.{Means}
+use Rattle.ss_top_sources.specs.CoreSources.{Means}
 
 -- Every state of the run is good until a check has failed. Each object then meets the invariants of each class at which it is
 -- packed.

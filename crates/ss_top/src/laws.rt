@@ -4,7 +4,7 @@ ghost use Rattle.std.specs.Prelude.{◌≡◌, ℕ, List};
 ghost use Rattle.ss_core.specs.declared.names.Place.{Place};
 ghost use Rattle.ss_core.specs.Tree.{CoreTree};
 ghost use Rattle.ss_top_sources.specs.Sources.{IsRefused};
-ghost use Rattle.ss_top.specs.Sources.{Means};
+ghost use Rattle.ss_top_sources.specs.CoreSources.{Means};
 
 /// A source has one core program at most.
 pub fn one_core()

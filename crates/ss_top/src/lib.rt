@@ -7,7 +7,6 @@ mod runs;
 mod source;
 mod top;
 
-pub use front::read_program;
 pub use laws::{no_fault, one_core};
-pub use ss_top_sources::one_fault;
+pub use ss_top_sources::{one_fault, read_program};
 pub use top::specsharp;

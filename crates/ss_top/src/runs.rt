@@ -9,7 +9,7 @@ ghost use Rattle.ss_typed.specs.View.{typed};
 ghost use Rattle.ss_store_rules.specs.Admitted as store;
 ghost use Rattle.ss_machine_typed.specs.Inputs.{IsInput};
 ghost use Rattle.ss_top_sources.specs.Sources.{IsAccepted};
-ghost use Rattle.ss_top.specs.Sources.{Means};
+ghost use Rattle.ss_top_sources.specs.CoreSources.{Means};
 ghost use Rattle.ss_top.specs.Answers.{Says};
 ghost use Rattle.ss_top_words.specs.declared.Command.TheVariants as goals;
 

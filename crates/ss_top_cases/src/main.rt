@@ -3,18 +3,10 @@
 // many objects live as the last number says.
 #![tactic(auto)]
 
-mod calls;
 mod case;
-mod counts;
-mod lines;
-mod listed;
-mod listing;
-mod part;
-mod repeats;
 mod suite;
 
-use counts::count_file;
-use repeats::repeat;
+use ss_tests_measures::{count_file, repeat};
 use std::rt::{Env, Files};
 use std::{env, io};
 use suite::run_file;

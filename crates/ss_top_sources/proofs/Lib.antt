@@ -2,3 +2,8 @@ pub mod Faults
 pub mod Meanings
 pub mod Readings
 pub mod Limits
+pub mod CoreLimits
+pub mod Means
+pub mod Bytes
+pub mod Parses
+pub mod Sources

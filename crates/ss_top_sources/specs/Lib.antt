@@ -1,2 +1,4 @@
 pub mod Phases
 pub mod Sources
+pub mod CoreSources
+pub mod Total

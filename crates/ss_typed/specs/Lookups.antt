@@ -2,13 +2,10 @@
 use Rattle.std.specs.Prelude.{ℕ, ◌-◌, ◌/◌, List, [], map, Option, Some, None, option_and_then, slice_get}
 use Rattle.ss_core.specs.declared.names.Ty.{Ty}
 use Rattle.ss_core.specs.Tree as core
+pub use Rattle.ss_core.specs.Kinds.{class_place}
 use Rattle.ss_core.specs.Chain.{declared}
 use Rattle.ss_typed.specs.Tree.{ParamTree, BodyTree, MembersTree, TypedTree}
 use Rattle.ss_typed.specs.Constructors.{written_constructor}
-
--- the place of a declared class in the list of classes
-abbrev pub class_place : ℕ → ℕ
-class_place t = (t - 4) / 2
 
 -- the written body of this number
 abbrev pub body_at : TypedTree → ℕ → Option BodyTree

@@ -2,17 +2,13 @@
 use Rattle.std.specs.Prelude.{ℕ, Bool, true, false, Option, Some, None, ◌==◌, ◌-◌, if◌then◌else◌}
 use Rattle.ss_core.specs.declared.names.Ty.{Ty}
 use Rattle.ss_core.specs.declared.names.Ty.TheVariants as ty
+pub use Rattle.ss_core.specs.Kinds.{element_type}
 pub use Rattle.ss_core.specs.Operations.{operation_type}
 use Rattle.ss_typed.specs.Tree.{ExprTree, IntOf, BoolOf, NullOf, ThisOf, LocalOf, ResultOf, BoundOf, IffOf, ImpliesOf, BinaryOf, IsOf, AsOf, NegateOf, NotOf, CastOf, FieldOf, ElementOf, LengthOf, OldOf, QuantifiedOf, StateOf, OwnersOf, NewOf, NewArrayOf, CallOf, StaticOf, BaseOf}
 
 -- the type of a class, with or without null
 abbrev pub class_type : ℕ → Bool → Ty
 class_type t non_null = ty.Ref (record { 0 = t }) non_null
-
--- The elements of an array by its class: `int[]` is 1, `bool[]` 2, `object[]` 3, and the array of a declared class comes behind it.
--- References among them may be null.
-abbrev pub element_type : ℕ → Ty
-element_type t = if t == 1 then ty.Int else if t == 2 then ty.Bool else if t == 3 then class_type 0 false else class_type (t - 1) false
 
 abbrev pub element_of : Option Ty → Option Ty
 element_of (Some (ty.Ref t non_null)) = Some (element_type t.0)

@@ -17,7 +17,7 @@ mod types;
 pub use assigned::{assigned_in_block, assigned_in_loop, assigned_within};
 pub use body::{TypedBase, TypedBody, TypedFlags, TypedModifies, TypedParam};
 pub use expr::{TypedExpr, TypedLink, TypedStep};
-pub use lookups::{body_at, class_place, constructor_of, members_of};
+pub use lookups::{body_at, constructor_of, members_of};
 pub use mentions::mentions_this;
 pub use program::{Typed, TypedClass, TypedField, TypedInvariant};
 pub use shapes::{has_base, is_base, is_this, is_true, place_of};

@@ -15,13 +15,6 @@ pub fn body_at(program: &Typed, number: BodyId) -> Option<&TypedBody>
     program.bodies.get(number.0 as usize)
 }
 
-/// The place of a declared class in the list of classes.
-pub fn class_place(class: ClassId) -> usize
-    ensures { result ≡ asked.class_place class.0 }
-{
-    (class.0 as usize).saturating_sub(4) / 2
-}
-
 // What stands at this place of the list.
 fn members_in(program: &Typed, place: usize) -> Option<&TypedClass>
     ensures { option_map (λ m. members m.now) result ≡ slice_get (typed program.now).members place }
@@ -34,7 +27,7 @@ pub fn members_of(program: &Typed, class: ClassId) -> Option<&TypedClass>
     ensures { option_map (λ m. members m.now) result ≡ asked.members_of (typed program.now) class.0 }
 {
     match program.classes.declared(class) {
-        Some(_) => members_in(program, class_place(class)),
+        Some(_) => members_in(program, class.list_place()),
         None => None,
     }
 }

@@ -1,7 +1,7 @@
 // The types of classes, elements and operations.
 
 ghost use Rattle.std.specs.Prelude.{◌≡◌, Some};
-ghost use Rattle.ss_typed.specs.Types.{class_type, element_type, element_of, operation_type};
+ghost use Rattle.ss_typed.specs.Types.{class_type, element_of, operation_type};
 
 use ss_core::{ClassId, Operator, Ty};
 
@@ -12,23 +12,11 @@ pub fn class_type(class: ClassId, non_null: bool) -> Ty
     Ty::Ref { class, non_null }
 }
 
-// The type of the elements of arrays of this class.
-fn element_type(class: ClassId) -> Ty
-    ensures { result ≡ element_type class.0 }
-{
-    match class.0 {
-        1 => Ty::Int,
-        2 => Ty::Bool,
-        3 => class_type(ClassId(0), false),
-        _ => class_type(ClassId(class.0.saturating_sub(1)), false),
-    }
-}
-
 fn element_in(ty: Ty) -> Option<Ty>
     ensures { result ≡ element_of (Some ty) }
 {
     match ty {
-        Ty::Ref { class, .. } => Some(element_type(class)),
+        Ty::Ref { class, .. } => Some(class.element_type()),
         Ty::Int | Ty::Bool | Ty::Null => None,
     }
 }

@@ -8,7 +8,7 @@ use Rattle.ss_store_rules.specs.Types.{element_of, code_type}
 use Rattle.ss_logic.specs.declared.Sort.{Sort}
 use Rattle.ss_logic.specs.declared.Sort.TheVariants as sort
 use Rattle.ss_logic.specs.Terms.{MakeReady, app, field_sort}
-use Rattle.ss_logic_express.specs.Express.{Meant, element_sort, said}
+use Rattle.ss_logic.specs.Express.{Meant, element_sort, said}
 use Rattle.ss_vcgen_heaps.specs.Positions.{Position, Walk, When, define, evaluate, evaluate_all, first_side, if_reached, join, local_term, meant_at, new_term, second_side, set_local, term_for, with_store, with_term}
 use Rattle.ss_vcgen_heaps.specs.Obligations.{behind_all, classes_of, exit_guard, into_body, local_sort, write, write_element}
 use Rattle.ss_vcgen_bodies.specs.Words.{turned}

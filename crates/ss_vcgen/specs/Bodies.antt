@@ -6,7 +6,7 @@ use Rattle.ss_store_rules.specs.Locals.{argument_types}
 use Rattle.ss_store_rules.specs.NonNull.{known_at_entry}
 use Rattle.ss_logic.specs.Terms.{Term}
 use Rattle.ss_logic.specs.Formulas.{Formula}
-use Rattle.ss_logic_express.specs.Express.{element_sort}
+use Rattle.ss_logic.specs.Express.{element_sort}
 use Rattle.ss_terms.specs.Forms.{Forms, IsGrown}
 use Rattle.ss_vcgen_heaps.specs.Positions.{Position, Walk, Counters, Always, good, assume_all, new_term, with_new}
 use Rattle.ss_vcgen_heaps.specs.Obligations.{argument_types_from, behind_all, enter_arguments}

@@ -1,3 +1,2 @@
 pub mod Behind
 pub mod Bodies
-pub mod Built

@@ -6,7 +6,7 @@ ghost use Rattle.ss_core.specs.View.{classes, body, expr};
 ghost use Rattle.ss_store_rules.specs.Locals.{local_types};
 ghost use Rattle.ss_store_rules.specs.Types.{element_of, code_type};
 ghost use Rattle.ss_logic.specs.Terms.{field_sort};
-ghost use Rattle.ss_logic_express.specs.Express.{element_sort};
+ghost use Rattle.ss_logic.specs.Express.{element_sort};
 ghost use Rattle.ss_terms.specs.Forms.{Forms};
 ghost use Rattle.ss_vcgen_heaps.specs.Positions as position;
 ghost use Rattle.ss_vcgen_heaps.specs.Obligations as spec;
@@ -17,11 +17,12 @@ ghost use Rattle.ss_vcgen.specs.Behind.{with_two, assigned, written, element_wri
 use ss_core::{Expr, FieldId};
 use ss_logic::Sort;
 use ss_terms::{Symbol, TermId};
+use ss_vcgen_bodies::element_sort;
 use ss_vcgen_builder::{Builder, Walk};
-use ss_vcgen_calls_made::element_sort;
-use ss_vcgen_evaluated::evaluate;
 use ss_vcgen_express::Meant;
-use ss_vcgen_statements::{ElementTarget, FieldTarget, applied_local, write, write_element};
+use ss_vcgen_statements::{
+    ElementTarget, FieldTarget, applied_local, evaluate, write, write_element,
+};
 use ss_vcgen_types::{code_type, element_of, field_type};
 use std::alloc::AllocError;
 

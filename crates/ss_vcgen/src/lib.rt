@@ -4,12 +4,10 @@
 mod behind;
 mod bodies;
 mod changes;
-mod list;
 mod programs;
 mod statements;
 mod watch;
 
-pub use list::Obligations;
 pub use programs::{Positions, locate, obligations};
-pub use ss_vcgen_builder::Listed;
+pub use ss_vcgen_builder::{Listed, Obligations};
 pub use watch::Located;

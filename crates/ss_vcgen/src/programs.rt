@@ -6,15 +6,14 @@ ghost use Rattle.ss_core.specs.Chain.{IsWithinLimits};
 ghost use Rattle.ss_terms.specs.Forms.{IsBankOf};
 ghost use Rattle.ss_vcgen_heaps.specs.Obligations as tree;
 ghost use Rattle.ss_vcgen_builder.specs.Builder.{counters_of, IsFine};
-ghost use Rattle.ss_vcgen.specs.Built.{trees, IsWithin};
+ghost use Rattle.ss_vcgen_builder.specs.Built.{trees, IsWithin};
 
 use crate::bodies::add_body;
-use crate::list::Obligations;
 use crate::watch::{Located, Watch};
 use ss_bit_set::BitSet;
 use ss_core::{BodyId, Core};
 use ss_terms::{Bank, Symbol, field_sorts};
-use ss_vcgen_builder::{Builder, Counters, Guard, Listed};
+use ss_vcgen_builder::{Builder, Counters, Guard, Listed, Obligations};
 use ss_vcgen_known::{Fields, Known};
 use std::alloc::{AllocError, Global};
 

@@ -16,11 +16,10 @@ ghost use Rattle.ss_vcgen.specs.Behind.{place_of, assigned, written, element_wri
 
 use crate::changes;
 use ss_core::{Callee, ClassId, Expr, Kind, Place, Stmt};
+use ss_vcgen_bodies::{call_with, construct, new_array};
 use ss_vcgen_builder::{Builder, Walk};
-use ss_vcgen_calls_made::{call_with, construct, new_array};
-use ss_vcgen_evaluated::{evaluate, holds_at};
 use ss_vcgen_known::{BodyContext, Known};
-use ss_vcgen_statements::{ElementTarget, FieldTarget};
+use ss_vcgen_statements::{ElementTarget, FieldTarget, evaluate, holds_at};
 use std::alloc::AllocError;
 
 fn place_of(stmt: &Stmt) -> Place

@@ -3,7 +3,7 @@ use Rattle.std.proofs.Common.{◌≡◌, List, Option, ap, ◌∙◌}
 use Rattle.ss_logic.specs.Terms.{Term}
 use Rattle.ss_vcgen_heaps.specs.Positions.{Position, Walk}
 use Rattle.ss_vcgen_heaps.specs.Obligations.{frame_formula}
-use Rattle.ss_vcgen_statements.proofs.Contexts.{IsAlike}
+use Rattle.ss_vcgen_statements.proofs.InContexts.{IsAlike}
 
 pub frame_alike : (w : Walk) (outside : List Term) (k l : Position) → IsAlike k l → frame_formula w outside k ≡ frame_formula w outside l
 frame_alike w outside k l h =

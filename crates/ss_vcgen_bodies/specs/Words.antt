@@ -11,9 +11,9 @@ use Rattle.ss_store_rules.specs.NonNull.{known_tested, known_head}
 use Rattle.ss_store_rules.specs.Paths.{is_literal_true}
 use Rattle.ss_logic.specs.Terms.{Term}
 use Rattle.ss_logic.specs.Formulas.{Formula}
-use Rattle.ss_logic_rules.specs.Shapes.{null_term, class_term, level_of, equal, differ}
-use Rattle.ss_logic_express.specs.Express.{and_of, or_of, Meant, element_sort}
-use Rattle.ss_logic_frames.specs.Frames.{grown}
+use Rattle.ss_logic.specs.Shapes.{null_term, class_term, level_of, equal, differ}
+use Rattle.ss_logic.specs.Express.{and_of, or_of, Meant, element_sort}
+use Rattle.ss_logic.specs.Frames.{grown}
 use Rattle.ss_vcgen_heaps.specs.Positions.{Position, Walk, Guard, Always, good, assume_all, check, check_all, evaluate, ended, holds_at, if_reached, local_term, new_term, set_local, with_new, When, Never}
 use Rattle.ss_vcgen_heaps.specs.Contracts.{conditions, contract_context, is_of_type, no_result}
 use Rattle.ss_vcgen_heaps.specs.Obligations.{classes_of, arguments_at, evaluate_result, exposed_formulas, exposed_terms, frame_formula, is_asked_ready, renewed, result_settled, settle_result, stays_of_type, types_from}

@@ -12,12 +12,12 @@ ghost use Rattle.ss_vcgen_bodies.specs.Words.{entries_said, exits_said};
 
 use crate::levels::exposed_terms;
 use crate::lists::first_terms;
+use crate::{entry_said, exit_said, frame_said};
 use ss_core::Exposed;
 use ss_terms::{FormulaId, TermId};
 use ss_vcgen_builder::{Builder, Walk};
-use ss_vcgen_calls_made::{entry_said, exit_said, frame_said};
 use ss_vcgen_contracts::{Contract, Run};
-use ss_vcgen_evaluated::context;
+use ss_vcgen_statements::context;
 use ss_vcgen_types::argument_types;
 use std::alloc::AllocError;
 

@@ -9,15 +9,14 @@ ghost use Rattle.ss_vcgen_statements.specs.Words.{Stays};
 ghost use Rattle.ss_vcgen_bodies.specs.Words.{is_never, each_turn, head_checked, head_formulas, head_reached, turned};
 
 use crate::frames::frame_at_head;
+use crate::grown_said;
 use crate::levels::levels_at_head;
 use crate::renewal::come_to_head;
 use crate::types::kept_types;
 use ss_core::{Exposed, Expr, Kind, Place, Stmt};
 use ss_terms::{FormulaId, TermId};
 use ss_vcgen_builder::{Builder, Guard, Spot, Walk};
-use ss_vcgen_calls_made::grown_said;
-use ss_vcgen_evaluated::holds_at;
-use ss_vcgen_statements::good;
+use ss_vcgen_statements::{good, holds_at};
 use std::alloc::AllocError;
 
 // That each of the conditions holds here.

@@ -2,8 +2,8 @@
 
 ghost use Rattle.std.specs.Prelude.{map, IfOk};
 ghost use Rattle.ss_core.specs.View.{classes, exposed_tree};
-ghost use Rattle.ss_logic_rules.specs.Shapes.{equal};
-ghost use Rattle.ss_logic_express.specs.Express.{and_of};
+ghost use Rattle.ss_logic.specs.Shapes.{equal};
+ghost use Rattle.ss_logic.specs.Express.{and_of};
 ghost use Rattle.ss_terms.specs.Forms.{term_at, terms_at, HasTerm, HasTerms};
 ghost use Rattle.ss_vcgen_heaps.specs.Obligations as spec;
 ghost use Rattle.ss_vcgen_express.specs.Numbers.{IsFormula, AreFormulas};

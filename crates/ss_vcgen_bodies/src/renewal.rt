@@ -8,10 +8,10 @@ ghost use Rattle.ss_vcgen_known.specs.Views.{known_of};
 ghost use Rattle.ss_vcgen_builder.specs.Builder.{position_at, walk_at, IsFine, IsWalk, Becomes};
 ghost use Rattle.ss_vcgen_bodies.specs.Words.{renewed_one, come_to_head};
 
+use crate::element_sort;
 use ss_core::{Stmt, Ty};
 use ss_logic::Sort;
 use ss_vcgen_builder::{Builder, Walk};
-use ss_vcgen_calls_made::element_sort;
 use ss_vcgen_known::{Known, assigned};
 use std::alloc::AllocError;
 

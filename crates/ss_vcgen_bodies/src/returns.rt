@@ -8,12 +8,12 @@ ghost use Rattle.ss_vcgen_contracts.specs.Views.{ones_at, AreOnes};
 ghost use Rattle.ss_vcgen_builder.specs.Builder.{position_at, walk_at, IsFine, IsWalk, Becomes};
 ghost use Rattle.ss_vcgen_bodies.specs.Words.{left, reached_result, result_reached};
 
+use crate::element_sort;
 use crate::frames::{exits_said, frame_formula};
 use ss_core::{Expr, Kind, Place};
 use ss_terms::TermId;
 use ss_vcgen_builder::{Builder, Walk};
-use ss_vcgen_calls_made::element_sort;
-use ss_vcgen_evaluated::evaluate;
+use ss_vcgen_statements::evaluate;
 use std::alloc::AllocError;
 
 // What a result means gets a term; its parts are checked.

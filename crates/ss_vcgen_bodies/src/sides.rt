@@ -3,7 +3,7 @@
 ghost use Rattle.std.specs.Prelude.{false, IfOk};
 ghost use Rattle.ss_core.specs.View.{expr};
 ghost use Rattle.ss_store_rules.specs.NonNull.{known_tested};
-ghost use Rattle.ss_logic_express.specs.Express.{said};
+ghost use Rattle.ss_logic.specs.Express.{said};
 ghost use Rattle.ss_terms.specs.Forms.{Forms};
 ghost use Rattle.ss_vcgen_heaps.specs.Positions as position;
 ghost use Rattle.ss_vcgen_heaps.specs.Obligations as spec;
@@ -15,8 +15,8 @@ ghost use Rattle.ss_vcgen_bodies.specs.Words.{other_side, exit_side};
 use ss_core::Expr;
 use ss_terms::FormulaId;
 use ss_vcgen_builder::{Builder, Guard, Spot, Walk};
-use ss_vcgen_evaluated::evaluate;
 use ss_vcgen_express::{Meant, said};
+use ss_vcgen_statements::evaluate;
 use ss_vcgen_types::is_literal_true;
 use std::alloc::{AllocError, Global};
 

@@ -1,8 +1,8 @@
 // That locals have values of their types.
 
 ghost use Rattle.std.specs.Prelude.{◌≡◌, true, [], ◌∷◌, Some, slice_get, IfOk};
-ghost use Rattle.ss_logic_rules.specs.Shapes.{null_term, equal, differ};
-ghost use Rattle.ss_logic_express.specs.Express.{or_of};
+ghost use Rattle.ss_logic.specs.Shapes.{null_term, equal, differ};
+ghost use Rattle.ss_logic.specs.Express.{or_of};
 ghost use Rattle.ss_terms.specs.Forms.{Forms, term_at, HasTerm};
 ghost use Rattle.ss_vcgen_heaps.specs.Obligations as spec;
 ghost use Rattle.ss_vcgen_express.specs.Numbers.{IsFormula, AreFormulas};
@@ -10,10 +10,10 @@ ghost use Rattle.ss_vcgen_builder.specs.Builder.{position_at, local_at, locals_a
 ghost use Rattle.ss_vcgen_statements.specs.Words.{Stays};
 ghost use Rattle.ss_vcgen_bodies.specs.Words.{flat, nullable, kept_type, entry_type, not_lost};
 
+use crate::type_said;
 use ss_core::{Ty, is_non_null};
 use ss_terms::{FormulaId, TermId};
 use ss_vcgen_builder::{Builder, Walk};
-use ss_vcgen_calls_made::type_said;
 use ss_vcgen_express::Saying;
 use ss_vcgen_statements::{is_null, one_of, say};
 use std::alloc::AllocError;

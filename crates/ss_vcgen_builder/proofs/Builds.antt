@@ -9,8 +9,8 @@ use Rattle.ss_store_rules.specs.NonNull as NonNull
 use Rattle.ss_logic.specs.declared.Sort.{Sort}
 use Rattle.ss_logic.specs.Terms as tree
 use Rattle.ss_logic.specs.Formulas as logic
-use Rattle.ss_logic_rules.specs.Shapes.{equal}
-use Rattle.ss_logic_express.specs.Express as express
+use Rattle.ss_logic.specs.Shapes.{equal}
+use Rattle.ss_logic.specs.Express as express
 use Rattle.ss_terms.specs.declared.forms.TermId.{TermId}
 use Rattle.ss_terms.specs.declared.forms.FormulaId.{FormulaId}
 use Rattle.ss_terms.specs.Forms.{Forms, term_at, formula_at, formulas_at, HasTerm, HasFormula, IsGrown}

@@ -1,3 +1,4 @@
 pub mod Held
 pub mod Builds
 pub mod Joining
+pub mod Within

@@ -2,7 +2,7 @@
 
 ghost use Rattle.std.specs.Prelude.{[], IfOk};
 ghost use Rattle.ss_logic.specs.Formulas.{neg};
-ghost use Rattle.ss_logic_rules.specs.Shapes.{equal};
+ghost use Rattle.ss_logic.specs.Shapes.{equal};
 ghost use Rattle.ss_terms.specs.Forms.{term_at, formula_at, HasTerm, HasFormula, IsGrown};
 ghost use Rattle.ss_vcgen_heaps.specs.Positions as spec;
 ghost use Rattle.ss_vcgen_express.specs.Numbers.{IsTerm, IsFormula};

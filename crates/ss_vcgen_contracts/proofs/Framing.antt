@@ -5,8 +5,8 @@ use Rattle.ss_core.specs.declared.names.Ty.{Ty}
 use Rattle.ss_core.specs.Tree.{ClassTree, BodyTree}
 use Rattle.ss_store_rules.specs.Locals.{types_of, this_types, local_types}
 use Rattle.ss_logic.specs.Terms.{Term}
-use Rattle.ss_logic_express.specs.Express.{Meant, Context, at_entry}
-use Rattle.ss_logic_frames.specs.Frames.{NamedTerm, OwnerTerm, CallTerms}
+use Rattle.ss_logic.specs.Express.{Meant, Context, at_entry}
+use Rattle.ss_logic.specs.Frames.{NamedTerm, OwnerTerm, CallTerms}
 use Rattle.ss_vcgen_heaps.specs.Contracts as heaps
 use Rattle.ss_vcgen_contracts.specs.Seen.{condition_of}
 use Rattle.ss_vcgen_contracts.specs.Names.{name_seen, names_context}

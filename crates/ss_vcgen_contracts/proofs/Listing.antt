@@ -8,9 +8,9 @@ use Rattle.ss_core.specs.View.{local_of}
 use Rattle.ss_store_rules.specs.Locals.{types_of}
 use Rattle.ss_logic.specs.Terms.{Term, sort_of_type}
 use Rattle.ss_logic.specs.Formulas.{Formula}
-use Rattle.ss_logic_express.specs.Express as spec
-use Rattle.ss_logic_express.specs.Express.{One, Meant, default_of_sort}
-use Rattle.ss_logic_frames.specs.Frames as logic
+use Rattle.ss_logic.specs.Express as spec
+use Rattle.ss_logic.specs.Express.{One, Meant, default_of_sort}
+use Rattle.ss_logic.specs.Frames as logic
 use Rattle.ss_terms.specs.declared.forms.TermId.{TermId}
 use Rattle.ss_terms.specs.declared.forms.FormulaId.{FormulaId}
 use Rattle.ss_terms.specs.Forms.{Forms, formula_at, formulas_at, HasTerm, HasTerms, IsGrown}

@@ -3,7 +3,7 @@ use Rattle.std.proofs.Common.{◌≡◌, Bool, true, false, List, [], ◌∷◌,
 use Rattle.std.proofs.lemmas.List.{append-nil}
 use Rattle.ss_core.specs.Tree.{NamedTree, FieldOf, AllOf, ElementsOf, UptoOf}
 use Rattle.ss_logic.specs.Formulas.{Formula}
-use Rattle.ss_logic_express.specs.Express.{Meant, One, Either, Says, Context, meant}
+use Rattle.ss_logic.specs.Express.{Meant, One, Either, Says, Context, meant}
 use Rattle.ss_machine_rules.specs.Frame.{subject_of}
 use Rattle.ss_terms.specs.declared.forms.TermId.{TermId}
 use Rattle.ss_terms.specs.declared.forms.FormulaId.{FormulaId}

@@ -8,7 +8,7 @@ use Rattle.ss_core.specs.Tree.{ClassTree, LocalTree, BodyTree}
 use Rattle.ss_core.specs.Chain.{level_above, levels_from, levels}
 use Rattle.ss_core.specs.View as view
 use Rattle.ss_logic.specs.Terms.{Term}
-use Rattle.ss_logic_express.specs.Express.{Meant, One, Context, local_meant}
+use Rattle.ss_logic.specs.Express.{Meant, One, Context, local_meant}
 use Rattle.ss_terms.specs.declared.forms.TermId.{TermId}
 use Rattle.ss_terms.specs.Forms.{Forms, term_at, terms_at, HasTerm, HasTerms}
 use Rattle.ss_frames.specs.Calls.{owner_at, HasOwned}

@@ -6,7 +6,7 @@ use Rattle.ss_core.specs.declared.expr.Expr.TheOpen.{Link-F, Step-F}
 use Rattle.ss_core.specs.declared.names.Place.{Place}
 use Rattle.ss_core.specs.Tree.{AtLevel, Unpacked, ThisUnowned, Defaults, OwnedFull, Full, ConsistentArgument, FullArgument, Captured, ExprTree, IntExpr, BoolExpr, NullExpr, LocalExpr, FieldExpr, ElementExpr, LengthExpr, NegateExpr, NotExpr, BinaryExpr, ImpliesExpr, IffExpr, IsExpr, AsExpr, CastExpr, OldExpr, QuantifiedExpr, StateExpr, OwnersExpr, DefaultExpr}
 use Rattle.ss_core.specs.View.{Behind, link_step, step_step}
-use Rattle.ss_logic_express.specs.Express.{and_of, default_said, holds_formula, Context}
+use Rattle.ss_logic.specs.Express.{and_of, default_said, holds_formula, Context}
 use Rattle.ss_vcgen_heaps.specs.Contracts.{seen_condition}
 use Rattle.ss_vcgen_contracts.specs.Seen.{is_at_level, condition_of}
 

@@ -3,9 +3,9 @@ use Rattle.std.specs.Prelude.{List, [], ◌∷◌, ◌++◌, map, Bool, if◌the
 use Rattle.ss_core.specs.Tree.{ClassTree, BodyTree, NamedTree, FieldOf, AllOf, ElementsOf, UptoOf}
 use Rattle.ss_logic.specs.Terms.{Term}
 use Rattle.ss_logic.specs.Formulas.{Formula}
-use Rattle.ss_logic_express.specs.Express.{and_of, Meant, One, Either, Says, Context, meant, at_entry}
-use Rattle.ss_logic_frames.specs.Frames as logic
-use Rattle.ss_logic_frames.specs.Frames.{NamesField, NamesAll, NamesUpto, NamesElements}
+use Rattle.ss_logic.specs.Express.{and_of, Meant, One, Either, Says, Context, meant, at_entry}
+use Rattle.ss_logic.specs.Frames as logic
+use Rattle.ss_logic.specs.Frames.{NamesField, NamesAll, NamesUpto, NamesElements}
 use Rattle.ss_machine_rules.specs.Frame.{subject_of}
 use Rattle.ss_terms.specs.declared.forms.TermId.{TermId}
 use Rattle.ss_terms.specs.declared.forms.FormulaId.{FormulaId}

@@ -2,8 +2,8 @@
 use Rattle.std.specs.Prelude.{◌≡◌, List, map, Bool, true, false, if◌then◌else◌}
 use Rattle.ss_core.specs.Tree.{CalleeTree, Dispatched, BodyTree}
 use Rattle.ss_core.specs.View.{body}
-use Rattle.ss_logic_express.specs.Express as spec
-use Rattle.ss_logic_frames.specs.Frames as logic
+use Rattle.ss_logic.specs.Express as spec
+use Rattle.ss_logic.specs.Frames as logic
 use Rattle.ss_terms.specs.declared.forms.TermId.{TermId}
 use Rattle.ss_terms.specs.Forms.{Forms, HasTerms, IsGrown}
 use Rattle.ss_frames.specs.declared.calls.NamedTerm.{NamedTerm}

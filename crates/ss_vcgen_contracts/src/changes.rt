@@ -3,8 +3,8 @@
 ghost use Rattle.std.specs.Prelude.{◌≤◌, length, map, IfOk};
 ghost use Rattle.ss_core.specs.Chain.{most_classes, IsWithinLimits};
 ghost use Rattle.ss_core.specs.View as view;
-ghost use Rattle.ss_logic_express.specs.Express.{local_meant};
-ghost use Rattle.ss_logic_frames.specs.Frames as logic;
+ghost use Rattle.ss_logic.specs.Express.{local_meant};
+ghost use Rattle.ss_logic.specs.Frames as logic;
 ghost use Rattle.ss_terms.specs.Forms.{term_at, terms_at, HasTerm, HasTerms, IsGrown, IsBankOf};
 ghost use Rattle.ss_frames.specs.Calls.{call_at, HasCall};
 ghost use Rattle.ss_vcgen_express.specs.declared.meant.Meant.TheVariants as meant;

@@ -4,7 +4,7 @@ ghost use Rattle.std.specs.Prelude.{◌≡◌, ◌≤◌, [], ◌∷◌, length,
 ghost use Rattle.ss_core.specs.Chain.{most_classes};
 ghost use Rattle.ss_core.specs.Tree as tree;
 ghost use Rattle.ss_core.specs.View as view;
-ghost use Rattle.ss_logic_express.specs.Express.{and_of, default_said, holds_formula};
+ghost use Rattle.ss_logic.specs.Express.{and_of, default_said, holds_formula};
 ghost use Rattle.ss_terms.specs.Forms.{term_at, HasTerm, HasTerms, IsGrown};
 ghost use Rattle.ss_vcgen_express.specs.Numbers.{IsFormula, AreFormulas};
 ghost use Rattle.ss_vcgen_express.specs.Contexts.{context_at, HasContext};

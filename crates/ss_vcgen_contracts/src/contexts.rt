@@ -4,7 +4,7 @@ ghost use Rattle.std.specs.Prelude.{◌≤◌, [], ◌∷◌, ◌++◌, length, 
 ghost use Rattle.ss_core.specs.Chain.{most_classes};
 ghost use Rattle.ss_core.specs.View as view;
 ghost use Rattle.ss_logic.specs.Terms.{sort_of_type};
-ghost use Rattle.ss_logic_express.specs.Express.{default_of_sort};
+ghost use Rattle.ss_logic.specs.Express.{default_of_sort};
 ghost use Rattle.ss_store_rules.specs.Locals.{types_of};
 ghost use Rattle.ss_terms.specs.Forms.{term_at, HasTerm, HasTerms, IsGrown};
 ghost use Rattle.ss_vcgen_express.specs.Numbers.{IsTerm};

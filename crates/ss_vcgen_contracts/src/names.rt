@@ -2,7 +2,7 @@
 
 ghost use Rattle.std.specs.Prelude.{◌≡◌, [], ◌∷◌, ◌++◌, map, IfOk};
 ghost use Rattle.ss_core.specs.View as view;
-ghost use Rattle.ss_logic_express.specs.Express.{and_of};
+ghost use Rattle.ss_logic.specs.Express.{and_of};
 ghost use Rattle.ss_terms.specs.Forms.{term_at, formula_at, formulas_at, HasTerm, HasFormulas, IsGrown};
 ghost use Rattle.ss_frames.specs.Calls.{named_at, HasAllNamed};
 ghost use Rattle.ss_vcgen_express.specs.Numbers.{choices_at, meant_at, HasChoice, HasChoices, HasMeant};

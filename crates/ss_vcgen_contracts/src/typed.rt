@@ -1,14 +1,14 @@
 // That a value is of a type.
 
 ghost use Rattle.std.specs.Prelude.{[], ◌∷◌, if◌then◌else◌, option_to_list, IfOk};
-ghost use Rattle.ss_logic_express.specs.Express.{and_of, or_of, fits_int};
-ghost use Rattle.ss_logic_rules.specs.Shapes.{null_term, equal, differ};
+ghost use Rattle.ss_logic.specs.Express.{and_of, or_of, fits_int};
+ghost use Rattle.ss_logic.specs.Shapes.{null_term, equal, differ};
 ghost use Rattle.ss_terms.specs.Forms.{term_at, HasTerm, IsGrown};
 ghost use Rattle.ss_vcgen_express.specs.Numbers.{IsFormula, AreFormulas};
 ghost use Rattle.ss_vcgen_heaps.specs.Contracts as heaps;
 
 use ss_core::{ClassId, Ty};
-use ss_rules_plans::{Claim, Clause, Plan, Slot, fill};
+use ss_rules_basic::{Claim, Clause, Plan, Slot, fill};
 use ss_terms::{Bank, FormulaId, Predicate, Symbol, TermId};
 use std::alloc::{AllocError, Global};
 

@@ -12,7 +12,7 @@ use Rattle.ss_core.specs.Chain.{above, level_above, levels_from, most_levels, le
 use Rattle.ss_core.specs.View.{classes, class_of, field_of}
 use Rattle.ss_logic.specs.Terms.{Term}
 use Rattle.ss_logic.specs.Formulas.{Formula}
-use Rattle.ss_logic_express.specs.Express as spec
+use Rattle.ss_logic.specs.Express as spec
 use Rattle.ss_vcgen_defaults.specs.Defaults.{Slot, slot, with_slot, slots_if, slots_upto, at_default, number_of}
 
 -- ---- fields

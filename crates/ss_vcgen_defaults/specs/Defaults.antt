@@ -7,8 +7,8 @@ use Rattle.ss_logic.specs.declared.Sort.{Sort}
 use Rattle.ss_logic.specs.Terms.{Term, app, sort_of_type}
 use Rattle.ss_logic.specs.Terms as term
 use Rattle.ss_logic.specs.Formulas.{Formula, neg}
-use Rattle.ss_logic_rules.specs.Shapes.{null_term, class_term, level_of, owner_of, pair_of, equal, differ, allocated, committed}
-use Rattle.ss_logic_express.specs.Express.{and_of, or_of, is_full, default_of_sort}
+use Rattle.ss_logic.specs.Shapes.{null_term, class_term, level_of, owner_of, pair_of, equal, differ, allocated, committed}
+use Rattle.ss_logic.specs.Express.{and_of, or_of, is_full, default_of_sort}
 use Rattle.ss_vcgen_defaults.specs.declared.fields.Held.{Held}
 
 -- ---- fields, by number and sort

@@ -4,7 +4,7 @@ ghost use Rattle.std.specs.Prelude.{◌≡◌, [], ◌∷◌, IfOk};
 ghost use Rattle.ss_core.specs.Chain.{all_fields};
 ghost use Rattle.ss_core.specs.View as view;
 ghost use Rattle.ss_core.specs.View.{default_tree};
-ghost use Rattle.ss_logic_express.specs.Express as spec;
+ghost use Rattle.ss_logic.specs.Express as spec;
 ghost use Rattle.ss_logic.specs.declared.Sort.TheVariants as sort;
 ghost use Rattle.ss_logic.specs.Terms.{Bound};
 ghost use Rattle.ss_logic.specs.Formulas as logic;

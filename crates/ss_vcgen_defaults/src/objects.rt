@@ -1,8 +1,8 @@
 // What default conditions say of objects.
 
 ghost use Rattle.std.specs.Prelude.{◌≡◌, [], ◌∷◌, IfOk, map};
-ghost use Rattle.ss_logic_express.specs.Express as spec;
-ghost use Rattle.ss_logic_rules.specs.Shapes.{null_term, equal, allocated};
+ghost use Rattle.ss_logic.specs.Express as spec;
+ghost use Rattle.ss_logic.specs.Shapes.{null_term, equal, allocated};
 ghost use Rattle.ss_logic.specs.declared.Sort.TheVariants as sort;
 ghost use Rattle.ss_logic.specs.Formulas as logic;
 ghost use Rattle.ss_terms.specs.Forms.{term_at, formula_at, HasTerm, HasFormula, IsGrown};
@@ -12,7 +12,7 @@ ghost use Rattle.ss_vcgen_express.specs.Numbers.{IsTerm, IsFormula, AreFormulas}
 use crate::fields::Held;
 use ss_core::ClassId;
 use ss_logic::Sort;
-use ss_rules_plans::{Claim, Clause, Plan, Slot, fill};
+use ss_rules_basic::{Claim, Clause, Plan, Slot, fill};
 use ss_terms::{Bank, FormulaId, Predicate, Symbol, TermId};
 use ss_vcgen_express::{either, for_all};
 use std::alloc::{AllocError, Global};

@@ -3,7 +3,7 @@ use Rattle.std.proofs.Common.{◌≡◌, ◌*◌, List, [], ◌∷◌, ◌++◌,
 use Rattle.std.specs.Prelude.{IfOk}
 use Rattle.std.proofs.lemmas.List.{map_push}
 use Rattle.ss_logic.specs.Formulas.{Formula, Literal, And, Or, Forall, Exists, formulas_from, formula_list}
-use Rattle.ss_logic_express.specs.Express as spec
+use Rattle.ss_logic.specs.Express as spec
 use Rattle.ss_terms.specs.Lists.{SmallVec}
 use Rattle.ss_terms.specs.declared.forms.FormulaId.{FormulaId}
 use Rattle.ss_terms.specs.declared.forms.Formula.TheVariants as form

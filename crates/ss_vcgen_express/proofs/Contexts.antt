@@ -5,8 +5,8 @@ use Rattle.std.proofs.lemmas.Option.{slice_get-map}
 use Rattle.ss_core.specs.declared.expr.Quantifier.{Quantifier}
 use Rattle.ss_core.specs.declared.expr.Quantifier.TheVariants as quantifier
 use Rattle.ss_logic.specs.Formulas.{Formula}
-use Rattle.ss_logic_rules.specs.Shapes.{null_term}
-use Rattle.ss_logic_express.specs.Express as spec
+use Rattle.ss_logic.specs.Shapes.{null_term}
+use Rattle.ss_logic.specs.Express as spec
 use Rattle.ss_terms.specs.declared.forms.TermId.{TermId}
 use Rattle.ss_terms.specs.Forms.{Forms, term_at, HasTerm, HasTerms, IsGrown}
 use Rattle.ss_terms.proofs.Grown.{HasTerm-grown, HasTerms-grown}

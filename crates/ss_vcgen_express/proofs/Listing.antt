@@ -3,7 +3,7 @@ use Rattle.std.proofs.Common.{◌≡◌, ℕ, ◌+◌, ◌<◌, List, [], ◌∷
 use Rattle.std.specs.Prelude.{IfOk, flat_map}
 use Rattle.std.proofs.lemmas.List.{take_more, map_push, flat_map_more, append-nil}
 use Rattle.ss_logic.specs.Terms as tree
-use Rattle.ss_logic_express.specs.Express as spec
+use Rattle.ss_logic.specs.Express as spec
 use Rattle.ss_terms.specs.declared.forms.TermId.{TermId}
 use Rattle.ss_terms.specs.Forms.{Forms, term_at, formula_at, HasTerm, IsGrown}
 use Rattle.ss_terms.proofs.Grown.{IsGrown-then, HasFormula-grown}

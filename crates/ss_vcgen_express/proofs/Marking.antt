@@ -10,11 +10,11 @@ use Rattle.ss_core.specs.declared.expr.Operator.TheVariants as op
 use Rattle.ss_core.specs.Tree.{WordTree, Consistent, Committed, New, Level, Packed, Unowned, ExprTree, IntExpr, BoolExpr, NullExpr, LocalExpr, FieldExpr, ElementExpr, LengthExpr, NegateExpr, NotExpr, BinaryExpr, ImpliesExpr, IffExpr, IsExpr, AsExpr, CastExpr, OldExpr, QuantifiedExpr, StateExpr, OwnersExpr, DefaultExpr}
 use Rattle.ss_store_rules.specs.NonNull.{Known, Site, is_never_null, known_right}
 use Rattle.ss_logic.specs.Formulas.{Formula, neg}
-use Rattle.ss_logic_rules.specs.Shapes.{number, allocated}
+use Rattle.ss_logic.specs.Shapes.{number, allocated}
 use Rattle.ss_logic.specs.Terms.{app}
 use Rattle.ss_logic.specs.Terms as term
 use Rattle.ss_store_rules.specs.Types.{type_of}
-use Rattle.ss_logic_express.specs.Express.{or_of, Meant, over, said, Context, at_entry, with_bound, fits_int, meant, not_null, index_fits, readable, under, operation_parts, word_parts, defined}
+use Rattle.ss_logic.specs.Express.{or_of, Meant, over, said, Context, at_entry, with_bound, fits_int, meant, not_null, index_fits, readable, under, operation_parts, word_parts, defined}
 use Rattle.ss_vcgen_heaps.specs.Parts as heaps
 use Rattle.ss_vcgen_heaps.specs.Parts.{Part, part, with_formula, is_upwards, parts_under, null_part, readable_parts, cast_part, operation_part, right_parts, parts}
 use Rattle.ss_vcgen_express.specs.Marked.{Marked, marked_part, with_marked, marked_under, marked_null, marked_readable, marked_word, marked_cast, marked_operation, marked_right, in_range, marked, formulas_of, checked_of}

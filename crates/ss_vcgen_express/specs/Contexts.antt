@@ -6,8 +6,8 @@ use Rattle.ss_core.specs.Chain.{most_classes}
 use Rattle.ss_core.specs.View as view
 use Rattle.ss_logic.specs.declared.Sort.TheVariants as sort
 use Rattle.ss_logic.specs.Formulas.{Formula, Forall, Exists, neg}
-use Rattle.ss_logic_express.specs.Express as spec
-use Rattle.ss_logic_express.specs.Express.{and_of, or_of}
+use Rattle.ss_logic.specs.Express as spec
+use Rattle.ss_logic.specs.Express.{and_of, or_of}
 use Rattle.ss_terms.specs.declared.forms.TermId.{TermId}
 use Rattle.ss_terms.specs.Forms.{Forms, term_at, HasTerm, HasTerms}
 use Rattle.ss_vcgen_express.specs.declared.context.Context.{Context}

@@ -12,8 +12,8 @@ use Rattle.ss_logic.specs.declared.Sort.TheVariants as sort
 use Rattle.ss_logic.specs.Terms.{app}
 use Rattle.ss_logic.specs.Terms as term
 use Rattle.ss_logic.specs.Formulas.{Formula, Forall, neg}
-use Rattle.ss_logic_rules.specs.Shapes.{number, allocated}
-use Rattle.ss_logic_express.specs.Express.{or_of, Meant, over, over_two, said, Context, at_entry, with_bound, fits_int, out_of_range, meant, not_null, index_fits, not_zero}
+use Rattle.ss_logic.specs.Shapes.{number, allocated}
+use Rattle.ss_logic.specs.Express.{or_of, Meant, over, over_two, said, Context, at_entry, with_bound, fits_int, out_of_range, meant, not_null, index_fits, not_zero}
 use Rattle.ss_vcgen_heaps.specs.Parts.{Part, with_formula, fits_class, is_upwards}
 
 pub record Marked : Type 0 where

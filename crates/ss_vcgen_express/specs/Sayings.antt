@@ -3,9 +3,9 @@ use Rattle.std.specs.Prelude.{ℕ, pos, [], ◌∷◌, Bool, true, false}
 use Rattle.ss_logic.specs.Terms.{Term, app}
 use Rattle.ss_logic.specs.Terms as term
 use Rattle.ss_logic.specs.Formulas.{Formula, neg}
-use Rattle.ss_logic_rules.specs.Shapes.{number, null_term, class_term, level_of, owner_of, pair_of, equal, differ, at_most, sub_atom, allocated, committed, group}
-use Rattle.ss_logic_rules.specs.Shapes as shape
-use Rattle.ss_logic_express.specs.Express.{and_of, or_of, truth_term, is_full, is_of, fits_int, less}
+use Rattle.ss_logic.specs.Shapes.{number, null_term, class_term, level_of, owner_of, pair_of, equal, differ, at_most, sub_atom, allocated, committed, group}
+use Rattle.ss_logic.specs.Shapes as shape
+use Rattle.ss_logic.specs.Express.{and_of, or_of, truth_term, is_full, is_of, fits_int, less}
 use Rattle.ss_terms.specs.declared.forms.TermId.{TermId}
 use Rattle.ss_terms.specs.Forms.{Forms, symbol_of, HasTerm}
 use Rattle.ss_vcgen_express.specs.declared.sayings.Relation.{Relation}

@@ -1,8 +1,8 @@
 // An object as one of a class.
 
 ghost use Rattle.std.specs.Prelude.{◌≡◌, [], ◌∷◌, ◌++◌, IfOk, flat_map};
-ghost use Rattle.ss_logic_express.specs.Express as spec;
-ghost use Rattle.ss_logic_rules.specs.Shapes.{null_term};
+ghost use Rattle.ss_logic.specs.Express as spec;
+ghost use Rattle.ss_logic.specs.Shapes.{null_term};
 ghost use Rattle.ss_logic.specs.Formulas.{neg};
 ghost use Rattle.ss_terms.specs.Forms.{term_at, formula_at, IsGrown};
 ghost use Rattle.ss_vcgen_express.specs.Numbers.{choice_at, choices_at, meant_at, HasChoice, HasChoices, HasMeant, IsFormula, IsChoice, AreChoices, IsMeant};

@@ -1,7 +1,7 @@
 // The context of an expression.
 
 ghost use Rattle.std.specs.Prelude.{◌≡◌, IfOk};
-ghost use Rattle.ss_logic_express.specs.Express as spec;
+ghost use Rattle.ss_logic.specs.Express as spec;
 ghost use Rattle.ss_terms.specs.Forms.{IsGrown};
 ghost use Rattle.ss_vcgen_express.specs.declared.meant.Meant.TheVariants as meant;
 ghost use Rattle.ss_vcgen_express.specs.Numbers.{IsMeant};

@@ -1,8 +1,8 @@
 // Terms that are truth values.
 
 ghost use Rattle.std.specs.Prelude.{◌≡◌, [], ◌∷◌, IfOk};
-ghost use Rattle.ss_logic_express.specs.Express as spec;
-ghost use Rattle.ss_logic_rules.specs.Shapes.{equal};
+ghost use Rattle.ss_logic.specs.Express as spec;
+ghost use Rattle.ss_logic.specs.Shapes.{equal};
 ghost use Rattle.ss_vcgen_heaps.specs.Positions as positions;
 ghost use Rattle.ss_terms.specs.Forms.{term_at, formula_at, HasTerm, HasFormula, IsGrown};
 ghost use Rattle.ss_vcgen_express.specs.Numbers.{IsFormula};

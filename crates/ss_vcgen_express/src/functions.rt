@@ -1,7 +1,7 @@
 // Functions of what expressions mean.
 
 ghost use Rattle.std.specs.Prelude.{◌≡◌, [], ◌∷◌, ◌++◌, IfOk, map, flat_map};
-ghost use Rattle.ss_logic_express.specs.Express as spec;
+ghost use Rattle.ss_logic.specs.Express as spec;
 ghost use Rattle.ss_terms.specs.Forms.{term_at, formula_at, HasTerm, IsGrown};
 ghost use Rattle.ss_vcgen_express.specs.Numbers.{choice_at, choices_at, meant_at, HasChoice, HasChoices, HasMeant, IsTerm, IsChoice, AreChoices, IsMeant};
 ghost use Rattle.ss_vcgen_express.specs.Functions.{applied, applied_two, HasFunction};

@@ -1,7 +1,7 @@
 // What expressions mean, by numbers of a bank.
 
 ghost use Rattle.std.specs.Prelude.{◌≡◌, IfOk};
-ghost use Rattle.ss_logic_express.specs.Express as spec;
+ghost use Rattle.ss_logic.specs.Express as spec;
 ghost use Rattle.ss_terms.specs.Forms.{term_at, formula_at, formulas_at, HasTerm, HasFormula, HasFormulas, IsGrown};
 ghost use Rattle.ss_vcgen_express.specs.Numbers.{meant_at, HasMeant, AreChoices};
 

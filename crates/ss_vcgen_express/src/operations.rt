@@ -1,7 +1,7 @@
 // Operations on truth values, as formulas.
 
 ghost use Rattle.std.specs.Prelude.{◌≡◌, [], ◌∷◌, IfOk};
-ghost use Rattle.ss_logic_express.specs.Express as spec;
+ghost use Rattle.ss_logic.specs.Express as spec;
 ghost use Rattle.ss_logic.specs.Formulas.{neg};
 ghost use Rattle.ss_terms.specs.Forms.{formula_at, HasFormula, IsGrown};
 ghost use Rattle.ss_vcgen_express.specs.Numbers.{meant_at, HasMeant, IsFormula};

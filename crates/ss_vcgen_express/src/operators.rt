@@ -1,7 +1,7 @@
 // Operators, at what their operands mean.
 
 ghost use Rattle.std.specs.Prelude.{◌≡◌, IfOk};
-ghost use Rattle.ss_logic_express.specs.Express as spec;
+ghost use Rattle.ss_logic.specs.Express as spec;
 ghost use Rattle.ss_logic.specs.Formulas.{neg};
 ghost use Rattle.ss_terms.specs.Forms.{term_at, symbol_of, IsGrown};
 ghost use Rattle.ss_vcgen_express.specs.Functions.{of_two};

@@ -1,8 +1,8 @@
 // Formulas for the values of a bound name.
 
 ghost use Rattle.std.specs.Prelude.{◌≡◌, pos, [], ◌∷◌, IfOk, map};
-ghost use Rattle.ss_logic_express.specs.Express as spec;
-ghost use Rattle.ss_logic_rules.specs.Shapes.{number, at_most};
+ghost use Rattle.ss_logic.specs.Express as spec;
+ghost use Rattle.ss_logic.specs.Shapes.{number, at_most};
 ghost use Rattle.ss_logic.specs.declared.Sort.TheVariants as sort;
 ghost use Rattle.ss_logic.specs.Terms.{Bound, app, Add};
 ghost use Rattle.ss_logic.specs.Formulas as logic;

@@ -3,12 +3,12 @@
 ghost use Rattle.std.specs.Prelude.{◌≡◌, [], ◌∷◌, true, IfOk};
 ghost use Rattle.ss_logic.specs.Terms.{app, terms_from};
 ghost use Rattle.ss_logic.specs.Formulas as logic;
-ghost use Rattle.ss_logic_rules.specs.Shapes.{class_term, level_of, owner_of, pair_of, equal, committed, group};
-ghost use Rattle.ss_logic_express.specs.Express as spec;
+ghost use Rattle.ss_logic.specs.Shapes.{class_term, level_of, owner_of, pair_of, equal, committed, group};
+ghost use Rattle.ss_logic.specs.Express as spec;
 ghost use Rattle.ss_terms.specs.Forms.{symbol_of, predicate_of, term_at, formula_at, HasTerm, HasFormula, IsGrown};
 ghost use Rattle.ss_vcgen_express.specs.Sayings.{has_element, of_class, related, said_so, HasRelation, HasSaying};
 
-use ss_rules_plans::{Claim, Clause, Plan, Slot, fill};
+use ss_rules_basic::{Claim, Clause, Plan, Slot, fill};
 use ss_terms::{Bank, FormulaId, Predicate, Symbol, TermId};
 use std::alloc::{AllocError, Global};
 

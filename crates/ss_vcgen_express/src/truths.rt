@@ -1,7 +1,7 @@
 // Formulas over what expressions mean.
 
 ghost use Rattle.std.specs.Prelude.{◌≡◌, [], ◌∷◌, IfOk, map};
-ghost use Rattle.ss_logic_express.specs.Express as spec;
+ghost use Rattle.ss_logic.specs.Express as spec;
 ghost use Rattle.ss_terms.specs.Forms.{term_at, formula_at, formulas_at, HasTerm, HasFormula, HasFormulas, IsGrown};
 ghost use Rattle.ss_vcgen_express.specs.Numbers.{choice_at, choices_at, meant_at, HasChoice, HasChoices, HasMeant, IsFormula, AreFormulas};
 ghost use Rattle.ss_vcgen_express.specs.Sayings.{related, said_so, HasRelation, HasSaying};

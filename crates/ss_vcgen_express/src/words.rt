@@ -2,7 +2,7 @@
 
 ghost use Rattle.std.specs.Prelude.{◌≡◌, IfOk};
 ghost use Rattle.ss_core.specs.View.{word_tree, owners_tree};
-ghost use Rattle.ss_logic_express.specs.Express as spec;
+ghost use Rattle.ss_logic.specs.Express as spec;
 ghost use Rattle.ss_terms.specs.Forms.{term_at, Forms, IsGrown};
 ghost use Rattle.ss_vcgen_express.specs.Numbers.{meant_at, HasMeant, IsFormula};
 ghost use Rattle.ss_vcgen_express.specs.Sayings.{related, said_so, HasRelation, HasSaying};

@@ -8,10 +8,10 @@ use Rattle.ss_store_rules.specs.Locals.{types_of, this_types, local_types}
 use Rattle.ss_store_rules.specs.Typed.{callee_of}
 use Rattle.ss_logic.specs.Terms.{Term, sort_of_type}
 use Rattle.ss_logic.specs.Formulas.{Formula}
-use Rattle.ss_logic_rules.specs.Shapes.{null_term, class_term, equal, differ, sub_atom, allocated, ready}
-use Rattle.ss_logic_rules.specs.Shapes as shape
-use Rattle.ss_logic_express.specs.Express.{and_of, or_of, Choice, Meant, One, Either, Says, Context, meant, defined, not_null, default_of_sort, fits_int, holds_formula, local_meant}
-use Rattle.ss_logic_frames.specs.Frames.{NamedTerm, NamesField, NamesAll, NamesUpto, NamesElements, OwnerTerm, CallTerms}
+use Rattle.ss_logic.specs.Shapes.{null_term, class_term, equal, differ, sub_atom, allocated, ready}
+use Rattle.ss_logic.specs.Shapes as shape
+use Rattle.ss_logic.specs.Express.{and_of, or_of, Choice, Meant, One, Either, Says, Context, meant, defined, not_null, default_of_sort, fits_int, holds_formula, local_meant}
+use Rattle.ss_logic.specs.Frames.{NamedTerm, NamesField, NamesAll, NamesUpto, NamesElements, OwnerTerm, CallTerms}
 use Rattle.ss_machine_rules.specs.Frame.{subject_of}
 
 -- ---- types

@@ -19,11 +19,11 @@ use Rattle.ss_logic.specs.declared.Sort.{Sort}
 use Rattle.ss_logic.specs.declared.Sort.TheVariants as sort
 use Rattle.ss_logic.specs.Terms.{Set, Put, Unpack, Pack, Capture, Join, New, NewArray, MakeReady, Length, Field, Constant, Term, Bound, app, field_sort}
 use Rattle.ss_logic.specs.Formulas.{Formula, Forall, neg, IsValid}
-use Rattle.ss_logic_rules.specs.Shapes.{number, null_term, class_term, level_of, owner_of, pair_of, next_of, equal, differ, at_most, sub_atom, allocated, committed, group}
-use Rattle.ss_logic_rules.specs.Shapes as shape
-use Rattle.ss_logic_express.specs.Express.{and_of, or_of, Meant, One, said, Context, element_sort, meant, is_full, less, holds_formula}
-use Rattle.ss_logic_express.specs.Invariants.{invariant_context}
-use Rattle.ss_logic_frames.specs.Frames.{kept, grown}
+use Rattle.ss_logic.specs.Shapes.{number, null_term, class_term, level_of, owner_of, pair_of, next_of, equal, differ, at_most, sub_atom, allocated, committed, group}
+use Rattle.ss_logic.specs.Shapes as shape
+use Rattle.ss_logic.specs.Express.{and_of, or_of, Meant, One, said, Context, element_sort, meant, is_full, less, holds_formula}
+use Rattle.ss_logic.specs.Invariants.{invariant_context}
+use Rattle.ss_logic.specs.Frames.{kept, grown}
 use Rattle.ss_vcgen_heaps.specs.Parts.{parts}
 use Rattle.ss_vcgen_heaps.specs.Positions.{Obligation, Guard, Always, When, Never, Counters, Position, Walk, good, assume, assume_all, check, check_all, check_unless, new_term, with_new, set_local, set_store, with_store, ended, meant_of, local_term, site, context_at, meant_at, evaluate, evaluate_all, holds_at, define, with_term, term_for, settled, meant_settled, first_side, second_side, join, if_reached}
 use Rattle.ss_vcgen_heaps.specs.Contracts.{is_of_type, contract_context, no_result, conditions, frame_terms, called}

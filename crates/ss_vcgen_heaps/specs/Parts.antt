@@ -17,9 +17,9 @@ use Rattle.ss_logic.specs.declared.Sort.TheVariants as sort
 use Rattle.ss_logic.specs.Terms.{Term, app}
 use Rattle.ss_logic.specs.Terms as term
 use Rattle.ss_logic.specs.Formulas.{Formula, Forall, neg}
-use Rattle.ss_logic_rules.specs.Shapes.{number, null_term, class_term, equal, at_most, sub_atom, allocated}
-use Rattle.ss_logic_rules.specs.Shapes as shape
-use Rattle.ss_logic_express.specs.Express.{or_of, Meant, over, over_two, said, Context, at_entry, with_bound, fits_int, out_of_range, meant, not_null, index_fits, not_zero}
+use Rattle.ss_logic.specs.Shapes.{number, null_term, class_term, equal, at_most, sub_atom, allocated}
+use Rattle.ss_logic.specs.Shapes as shape
+use Rattle.ss_logic.specs.Express.{or_of, Meant, over, over_two, said, Context, at_entry, with_bound, fits_int, out_of_range, meant, not_null, index_fits, not_zero}
 
 -- what has to be so, and the check that fails where it isn't
 pub record Part : Type 0 where

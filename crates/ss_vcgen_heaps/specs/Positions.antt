@@ -15,8 +15,8 @@ use Rattle.ss_logic.specs.declared.Sort.TheVariants as sort
 use Rattle.ss_logic.specs.Terms.{Constant, Term, app}
 use Rattle.ss_logic.specs.Formulas.{Good, Formula, neg, atom}
 use Rattle.ss_logic.specs.Equal.{same_term}
-use Rattle.ss_logic_rules.specs.Shapes.{null_term, equal}
-use Rattle.ss_logic_express.specs.Express.{and_of, or_of, truth_term, Meant, One, Either, Says, over, said, Context, element_sort, meant, holds_formula}
+use Rattle.ss_logic.specs.Shapes.{null_term, equal}
+use Rattle.ss_logic.specs.Express.{and_of, or_of, truth_term, Meant, One, Either, Says, over, said, Context, element_sort, meant, holds_formula}
 use Rattle.ss_vcgen_heaps.specs.Parts.{Part, parts}
 
 -- what has to be shown for one check: its goal wherever the premises are true

@@ -7,20 +7,20 @@ use Rattle.ss_logic.specs.Values.{Table}
 use Rattle.ss_vcgen_heaps.specs.Positions.{Walk}
 use Rattle.ss_sound_outcomes.specs.Points.{Point}
 use Rattle.ss_sound_outcomes.specs.Outcomes.{AllSafely}
-use Rattle.ss_vcgen_positions.specs.At.{activation}
-use Rattle.ss_vcgen_values.specs.Goes.{IsEntered, Goes}
-use Rattle.ss_vcgen_values.proofs.Plain.{assign_goes, assert_goes, assume_goes, print_goes, text_goes}
-use Rattle.ss_vcgen_values.proofs.Returns.{return_goes}
-use Rattle.ss_vcgen_updates.proofs.Arrays.{array_goes}
-use Rattle.ss_vcgen_updates.proofs.Elements.{element_goes}
-use Rattle.ss_vcgen_updates.proofs.Writes.{write_goes}
-use Rattle.ss_vcgen_updates.proofs.Levels.{unpack_goes, pack_goes}
-use Rattle.ss_vcgen_updates.proofs.Ready.{ready_goes}
-use Rattle.ss_vcgen_calls.proofs.Calls.{call_goes}
-use Rattle.ss_vcgen_calls.proofs.News.{new_goes}
-use Rattle.ss_vcgen_loops.specs.Forms.{AllGoes}
-use Rattle.ss_vcgen_loops.proofs.Goes.{loop_goes}
-use Rattle.ss_vcgen_loops.proofs.Tests.{tests_go}
+use Rattle.ss_vcgen_safe.specs.At.{activation}
+use Rattle.ss_vcgen_safe.specs.Goes.{IsEntered, Goes}
+use Rattle.ss_vcgen_safe.proofs.Plain.{assign_goes, assert_goes, assume_goes, print_goes, text_goes}
+use Rattle.ss_vcgen_safe.proofs.Returns.{return_goes}
+use Rattle.ss_vcgen_safe.proofs.Arrays.{array_goes}
+use Rattle.ss_vcgen_safe.proofs.Elements.{element_goes}
+use Rattle.ss_vcgen_safe.proofs.Writes.{write_goes}
+use Rattle.ss_vcgen_safe.proofs.Levels.{unpack_goes, pack_goes}
+use Rattle.ss_vcgen_safe.proofs.Ready.{ready_goes}
+use Rattle.ss_vcgen_safe.proofs.Calls.{call_goes}
+use Rattle.ss_vcgen_safe.proofs.News.{new_goes}
+use Rattle.ss_vcgen_safe.specs.Forms.{AllGoes}
+use Rattle.ss_vcgen_safe.proofs.Goes.{loop_goes}
+use Rattle.ss_vcgen_safe.proofs.Tests.{tests_go}
 use Rattle.ss_vcgen_safe.proofs.Branches.{nothing_goes, one_more_goes, if_goes}
 
 module _ (w : Walk) (before : List Object) (table : Table) (arguments : List Value) (entered : IsEntered w before arguments) where

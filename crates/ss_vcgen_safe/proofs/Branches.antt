@@ -15,26 +15,26 @@ use Rattle.ss_store_rules.specs.Paths as paths
 use Rattle.ss_store_rules.specs.Paths.{met, at_end, holds_at, holds_along}
 use Rattle.ss_store_rules.specs.Assigned.{assigned_flow, assigned_check, reads_assigned}
 use Rattle.ss_store_rules.specs.NonNull.{Known, known_tested, known_met, known_flow, null_check}
-use Rattle.ss_machine_good_constructors.specs.Checks.{fields_check}
+use Rattle.ss_machine_good.specs.Checks.{fields_check}
 use Rattle.ss_machine_good.specs.Known.{IsTrueOf}
 use Rattle.ss_logic.specs.Values.{Table, Structure}
 use Rattle.ss_logic.specs.Formulas.{Formula}
-use Rattle.ss_logic_express.specs.Express.{said}
+use Rattle.ss_logic.specs.Express.{said}
 use Rattle.ss_vcgen_heaps.specs.Positions.{When, Position, Walk, meant_at, evaluate, first_side, second_side, join}
 use Rattle.ss_vcgen_heaps.specs.Obligations.{behind, behind_all, AreValid}
 use Rattle.ss_sound_outcomes.specs.Points.{Point, scene}
 use Rattle.ss_sound_outcomes.specs.Outcomes.{Safely, AllSafely}
-use Rattle.ss_vcgen_positions.specs.At.{IsOff, HaveTerms, activation, Rises}
-use Rattle.ss_vcgen_positions.proofs.Alike.{rises_twice, alike_self, alike_twice, alike_lower, stays_on}
-use Rattle.ss_vcgen_positions.proofs.Leads.{leads_evaluate, leads_first, leads_join}
-use Rattle.ss_vcgen_positions.proofs.Statements.{leads, leads_all}
-use Rattle.ss_vcgen_positions.proofs.Same.{same_evaluate}
-use Rattle.ss_vcgen_positions.proofs.Paths.{IsReachable, IsPlaced, placed}
-use Rattle.ss_vcgen_positions.proofs.Branches.{into_first, into_second, behind_first, behind_second}
-use Rattle.ss_vcgen_values.specs.Goes.{IsCoded, IsHere, EndsIn, Goes}
-use Rattle.ss_vcgen_values.proofs.Plain.{has_value}
-use Rattle.ss_vcgen_loops.specs.Forms.{AreCoded, IsTested, TestsGo, AllGoes}
-use Rattle.ss_vcgen_loops.proofs.Known.{IsIn, all_stay_assigned, on_reachable, where_reached, IsKnown, known_placed}
+use Rattle.ss_vcgen_safe.specs.At.{IsOff, HaveTerms, activation, Rises}
+use Rattle.ss_vcgen_safe.proofs.Alike.{rises_twice, alike_self, alike_twice, alike_lower, stays_on}
+use Rattle.ss_vcgen_safe.proofs.Leads.{leads_evaluate, leads_first, leads_join}
+use Rattle.ss_vcgen_safe.proofs.PositionsStatements.{leads, leads_all}
+use Rattle.ss_vcgen_safe.proofs.Same.{same_evaluate}
+use Rattle.ss_vcgen_safe.proofs.Paths.{IsReachable, IsPlaced, placed}
+use Rattle.ss_vcgen_safe.proofs.PositionsBranches.{into_first, into_second, behind_first, behind_second}
+use Rattle.ss_vcgen_safe.specs.Goes.{IsCoded, IsHere, EndsIn, Goes}
+use Rattle.ss_vcgen_safe.proofs.Plain.{has_value}
+use Rattle.ss_vcgen_safe.specs.Forms.{AreCoded, IsTested, TestsGo, AllGoes}
+use Rattle.ss_vcgen_safe.proofs.Known.{IsIn, all_stay_assigned, on_reachable, where_reached, IsKnown, known_placed}
 
 -- ---- where paths meet
 

@@ -3,8 +3,8 @@ use Rattle.std.proofs.Common.{List, [], ◌∷◌}
 use Rattle.ss_core.specs.Tree.{ClassTree}
 use Rattle.ss_core.specs.Chain.{IsChain, NoAlso}
 use Rattle.ss_logic_means.specs.Scenes.{AreInvariants}
-use Rattle.ss_logic_derivations.specs.Steps.{Line}
-use Rattle.ss_logic_derivations.proofs.Valid.{derived_valid}
+use Rattle.ss_logic_means.specs.Steps.{Line}
+use Rattle.ss_logic_means.proofs.Valid.{derived_valid}
 use Rattle.ss_vcgen_heaps.specs.Positions.{Obligation}
 use Rattle.ss_vcgen_heaps.specs.Obligations.{AreValid}
 use Rattle.ss_vcgen_safe.specs.Derived.{AreDerived}

@@ -30,28 +30,28 @@ use Rattle.ss_logic.specs.Values.{Heap, IsNumbered, Table, null, as_store, sort_
 use Rattle.ss_logic.specs.Terms.{Term, sort_of_type}
 use Rattle.ss_logic.specs.Formulas.{Formula, True, Hold}
 use Rattle.ss_logic.specs.Objects.{IsGoodStore, objects_of}
-use Rattle.ss_logic_express.specs.Express.{Context, holds_formula, element_sort}
+use Rattle.ss_logic.specs.Express.{Context, holds_formula, element_sort}
 use Rattle.ss_logic_means.specs.Means.{standing, Means}
 use Rattle.ss_logic_means.specs.Sorts.{HasSort}
 use Rattle.ss_logic_means.proofs.Contracts.{contract_stated}
 use Rattle.ss_logic_tables.specs.Tabled.{IsStoreOf}
-use Rattle.ss_logic_spans.specs.Spans.{AreArguments}
-use Rattle.ss_logic_spans.specs.Conditions.{ContractTerms, ContractValues, IsContract}
-use Rattle.ss_logic_spans.proofs.Standing.{entry_arguments}
-use Rattle.ss_logic_spans.proofs.Contexts.{term_argument, contract_means}
+use Rattle.ss_logic_tables.specs.Spans.{AreArguments}
+use Rattle.ss_logic_tables.specs.Conditions.{ContractTerms, ContractValues, IsContract}
+use Rattle.ss_logic_tables.proofs.Standing.{entry_arguments}
+use Rattle.ss_logic_tables.proofs.Contexts.{term_argument, contract_means}
 use Rattle.ss_vcgen_heaps.specs.Positions.{Always, Counters, Position, Walk, raised, good, assume_all, new_term, with_new, meant_of}
 use Rattle.ss_vcgen_heaps.specs.Contracts.{is_of_type, contract_context, no_result, conditions}
 use Rattle.ss_vcgen_heaps.specs.Obligations.{classes_of, is_asked_ready, argument_types_from, arguments_at, enter_arguments, first_position, walk_of, at_entry}
 use Rattle.ss_sound_outcomes.specs.Points.{Point, scene, IsSound, ArePassed}
-use Rattle.ss_vcgen_positions.specs.At.{IsAlike, Stays, HasValue, HoldIn, IsOn, IsStore, IsLocal, Agrees, Rises, activation}
-use Rattle.ss_vcgen_positions.proofs.Alike.{rises_new, stays_on, store_on, table_on, new_constant}
-use Rattle.ss_vcgen_positions.proofs.Guards.{hold_more}
-use Rattle.ss_vcgen_positions.proofs.Joins.{typed_sort}
-use Rattle.ss_vcgen_positions.proofs.Keeps.{AllMean, conditions_true, assumed_all}
-use Rattle.ss_vcgen_positions.proofs.Same.{same_assume_all}
-use Rattle.ss_vcgen_positions.proofs.Terms.{standing_numbered}
-use Rattle.ss_vcgen_values.specs.Goes.{IsHere}
-use Rattle.ss_vcgen_values.proofs.Types.{type_true}
+use Rattle.ss_vcgen_safe.specs.At.{IsAlike, Stays, HasValue, HoldIn, IsOn, IsStore, IsLocal, Agrees, Rises, activation}
+use Rattle.ss_vcgen_safe.proofs.Alike.{rises_new, stays_on, store_on, table_on, new_constant}
+use Rattle.ss_vcgen_safe.proofs.Guards.{hold_more}
+use Rattle.ss_vcgen_safe.proofs.PositionsJoins.{typed_sort}
+use Rattle.ss_vcgen_safe.proofs.Keeps.{AllMean, conditions_true, assumed_all}
+use Rattle.ss_vcgen_safe.proofs.Same.{same_assume_all}
+use Rattle.ss_vcgen_safe.proofs.PositionsTerms.{standing_numbered}
+use Rattle.ss_vcgen_safe.specs.Goes.{IsHere}
+use Rattle.ss_vcgen_safe.proofs.Types.{type_true}
 
 -- ---- lists
 

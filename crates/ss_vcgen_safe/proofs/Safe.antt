@@ -9,16 +9,16 @@ use Rattle.ss_store_rules.specs.Paths as paths
 use Rattle.ss_store_rules.specs.Paths.{holds_along}
 use Rattle.ss_store_rules.specs.Assigned.{assigned_flow}
 use Rattle.ss_machine_rules.specs.States.{locals_at_entry}
-use Rattle.ss_machine_good_constructors.specs.Checks.{fields_check}
-use Rattle.ss_machine_good_constructors.proofs.Fields.{fields_along}
+use Rattle.ss_machine_good.specs.Checks.{fields_check}
+use Rattle.ss_machine_good.proofs.Fields.{fields_along}
 use Rattle.ss_logic.specs.Values.{no_heap}
 use Rattle.ss_logic_tables.specs.Tabled.{tabled}
 use Rattle.ss_logic_tables.proofs.Tabling.{list_has_a_heap}
 use Rattle.ss_vcgen_heaps.specs.Positions.{Obligation, Counters}
 use Rattle.ss_vcgen_heaps.specs.Obligations.{walk_of, at_entry, at_end, obligations_from, obligations, AreValid}
 use Rattle.ss_sound_outcomes.specs.Outcomes.{RunsSafely, AllRunSafely}
-use Rattle.ss_vcgen_values.specs.Goes.{IsEntered}
-use Rattle.ss_vcgen_loops.proofs.Known.{no_end}
+use Rattle.ss_vcgen_safe.specs.Goes.{IsEntered}
+use Rattle.ss_vcgen_safe.proofs.Known.{no_end}
 use Rattle.ss_vcgen_safe.proofs.All.{all_go}
 use Rattle.ss_vcgen_safe.proofs.Entries.{all, here, known_here}
 

@@ -1,7 +1,7 @@
 -- Derivations of all obligations of a list.
 use Rattle.std.specs.Prelude.{List, [], ◌∷◌}
 use Rattle.ss_core.specs.Tree.{ClassTree}
-use Rattle.ss_logic_derivations.specs.Steps.{Line, Derives}
+use Rattle.ss_logic_means.specs.Steps.{Line, Derives}
 use Rattle.ss_vcgen_heaps.specs.Positions.{Obligation}
 
 -- there is one for each obligation, in order, and no more

@@ -1,1 +1,13 @@
 pub mod Derived
+pub mod Goes
+pub mod Values
+pub mod Forms
+pub mod Heads
+pub mod Stated
+pub mod Formed
+pub mod Places
+pub mod Coded
+pub mod Done
+pub mod Placed
+pub mod Reading
+pub mod At

@@ -8,7 +8,7 @@ ghost use Rattle.ss_machine_rules.specs.Runs.{run};
 ghost use Rattle.ss_machine_rules.specs.Good.{IsUnfailed};
 ghost use Rattle.ss_machine_typed.specs.Inputs.{IsInput};
 ghost use Rattle.ss_vcgen_heaps.specs.Obligations.{obligations, AreValid};
-ghost use Rattle.ss_logic_derivations.specs.Steps.{Line};
+ghost use Rattle.ss_logic_means.specs.Steps.{Line};
 ghost use Rattle.ss_sound_outcomes.specs.Outcomes.{AllRunSafely};
 ghost use Rattle.ss_vcgen_safe.specs.Derived.{AreDerived};
 

@@ -1,3 +1,4 @@
 pub mod Going
-pub mod Contexts
+pub mod InContexts
 pub mod Steps
+pub mod Evaluated

@@ -7,8 +7,8 @@ use Rattle.ss_core.specs.Tree.{ExprTree}
 use Rattle.ss_core.specs.Chain.{above}
 use Rattle.ss_logic.specs.Terms.{Set, Term, app}
 use Rattle.ss_logic.specs.Formulas.{Formula, neg}
-use Rattle.ss_logic_rules.specs.Shapes.{class_term, level_of, owner_of, pair_of, equal, differ, sub_atom, allocated, committed}
-use Rattle.ss_logic_express.specs.Express.{and_of, or_of, is_full}
+use Rattle.ss_logic.specs.Shapes.{class_term, level_of, owner_of, pair_of, equal, differ, sub_atom, allocated, committed}
+use Rattle.ss_logic.specs.Express.{and_of, or_of, is_full}
 use Rattle.ss_terms.specs.declared.forms.TermId.{TermId}
 use Rattle.ss_terms.specs.Forms.{Forms, terms_at, HasTerms, IsGrown}
 use Rattle.ss_vcgen_heaps.specs.Positions.{Position, Walk, check, check_all, local_term}

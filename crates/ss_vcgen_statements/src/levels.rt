@@ -7,7 +7,7 @@ ghost use Rattle.ss_store_rules.specs.NonNull.{is_non_null_type};
 ghost use Rattle.ss_logic.specs.declared.Sort.TheVariants as sort;
 ghost use Rattle.ss_logic.specs.Terms.{Bound};
 ghost use Rattle.ss_logic.specs.Formulas.{Forall};
-ghost use Rattle.ss_logic_express.specs.Invariants.{invariant_context};
+ghost use Rattle.ss_logic.specs.Invariants.{invariant_context};
 ghost use Rattle.ss_terms.specs.Forms.{Forms, term_at, formula_at, HasTerm, HasFormula};
 ghost use Rattle.ss_vcgen_heaps.specs.Contracts as contract;
 ghost use Rattle.ss_vcgen_heaps.specs.Obligations as spec;

@@ -3,8 +3,8 @@
 ghost use Rattle.std.specs.Prelude.{◌≡◌, [], ◌∷◌, IfOk, OnOk};
 ghost use Rattle.ss_logic.specs.Terms.{app};
 ghost use Rattle.ss_logic.specs.Formulas.{neg};
-ghost use Rattle.ss_logic_rules.specs.Shapes.{null_term, equal};
-ghost use Rattle.ss_logic_express.specs.Express.{and_of, or_of};
+ghost use Rattle.ss_logic.specs.Shapes.{null_term, equal};
+ghost use Rattle.ss_logic.specs.Express.{and_of, or_of};
 ghost use Rattle.ss_terms.specs.Forms.{term_at, terms_at, formula_at, formulas_at, symbol_of, HasTerm, HasTerms, HasFormulas};
 ghost use Rattle.ss_vcgen_heaps.specs.Positions.{good, local_term, with_store};
 ghost use Rattle.ss_vcgen_express.specs.Numbers.{IsTerm, IsFormula};

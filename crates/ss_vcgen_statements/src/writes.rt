@@ -3,8 +3,8 @@
 ghost use Rattle.std.specs.Prelude.{◌≡◌, [], ◌∷◌, IfOk, OnOk};
 ghost use Rattle.ss_core.specs.View.{expr};
 ghost use Rattle.ss_logic.specs.Formulas.{neg};
-ghost use Rattle.ss_logic_rules.specs.Shapes.{owner_of, committed, group};
-ghost use Rattle.ss_logic_express.specs.Express.{and_of};
+ghost use Rattle.ss_logic.specs.Shapes.{owner_of, committed, group};
+ghost use Rattle.ss_logic.specs.Express.{and_of};
 ghost use Rattle.ss_terms.specs.Forms.{term_at, HasTerm};
 ghost use Rattle.ss_vcgen_heaps.specs.Obligations as spec;
 ghost use Rattle.ss_vcgen_express.specs.Numbers.{IsTerm, IsFormula};

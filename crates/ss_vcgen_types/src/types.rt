@@ -94,17 +94,6 @@ pub(crate) fn is_array(list: &Classes, class: ClassId) -> bool
     has_array_number(list, class)
 }
 
-fn element_type(class: ClassId) -> Ty
-    ensures { result ≡ element_type class.0 }
-{
-    match class.0 {
-        1 => Ty::Int,
-        2 => Ty::Bool,
-        3 => class_type(ClassId(0)),
-        _ => class_type(ClassId(class.0.saturating_sub(1))),
-    }
-}
-
 pub(crate) fn class_type(class: ClassId) -> Ty
     ensures { result ≡ class_type class.0 }
 {
@@ -131,7 +120,7 @@ pub fn element_of(list: &Classes, ty: Option<Ty>) -> Option<Ty>
     ensures { result ≡ element_of (classes list.now) ty }
 {
     match ty {
-        Some(Ty::Ref { class, .. }) => where_typed(is_array(list, class), element_type(class)),
+        Some(Ty::Ref { class, .. }) => where_typed(is_array(list, class), class.element_type()),
         Some(Ty::Int | Ty::Bool | Ty::Null) | None => None,
     }
 }

@@ -7,7 +7,7 @@ use Rattle.ss_core.specs.Tree.{ExprTree}
 use Rattle.ss_core.specs.View.{expr, exprs}
 use Rattle.ss_store_rules.specs.NonNull.{Site, Known}
 use Rattle.ss_logic.specs.Formulas.{Formula}
-use Rattle.ss_logic_express.specs.Express as spec
+use Rattle.ss_logic.specs.Express as spec
 use Rattle.ss_terms.specs.declared.forms.FormulaId.{FormulaId}
 use Rattle.ss_terms.specs.Forms.{Forms, formula_at, formulas_at, HasFormulas, IsGrown}
 use Rattle.ss_terms.proofs.Grown.{IsGrown-then, HasFormulas-grown}

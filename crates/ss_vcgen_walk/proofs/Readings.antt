@@ -17,7 +17,7 @@ use Rattle.ss_store_rules.specs.NonNull.{is_never_null, known_right}
 use Rattle.ss_store_rules.specs.NonNull as rules
 use Rattle.ss_store_rules.specs.Types.{type_of, is_bool, element_of}
 use Rattle.ss_logic.specs.declared.Sort.{Sort}
-use Rattle.ss_logic_express.specs.Express as spec
+use Rattle.ss_logic.specs.Express as spec
 use Rattle.ss_terms.specs.declared.forms.FormulaId.{FormulaId}
 use Rattle.ss_terms.specs.Forms.{Forms, formulas_at, IsGrown}
 use Rattle.ss_terms.proofs.Grown.{IsGrown-then}

@@ -3,8 +3,8 @@ use Rattle.std.specs.Prelude.{List, [], ◌++◌, Bool, true, if◌then◌else�
 use Rattle.ss_core.specs.declared.names.Kind.TheVariants as kind
 use Rattle.ss_core.specs.declared.names.Place.{Place}
 use Rattle.ss_core.specs.Tree.{WordTree, New}
-use Rattle.ss_logic_rules.specs.Shapes.{allocated}
-use Rattle.ss_logic_express.specs.Express.{Meant, Context, over, not_null}
+use Rattle.ss_logic.specs.Shapes.{allocated}
+use Rattle.ss_logic.specs.Express.{Meant, Context, over, not_null}
 use Rattle.ss_vcgen_express.specs.Marked.{Marked, marked_part}
 
 -- the object isn't null

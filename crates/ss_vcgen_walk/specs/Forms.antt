@@ -10,8 +10,8 @@ use Rattle.ss_vcgen_heaps.specs.Parts.{is_upwards, fits_class}
 use Rattle.ss_logic.specs.Terms.{app}
 use Rattle.ss_logic.specs.Terms as term
 use Rattle.ss_logic.specs.Formulas.{neg}
-use Rattle.ss_logic_rules.specs.Shapes.{number}
-use Rattle.ss_logic_express.specs.Express.{or_of, Meant, Says, Either, choices, over, over_two, mapped, paired, said, Context, state, is_of, fits_int, word_said, owners_said, same_truths, operated, as_class, index_fits}
+use Rattle.ss_logic.specs.Shapes.{number}
+use Rattle.ss_logic.specs.Express.{or_of, Meant, Says, Either, choices, over, over_two, mapped, paired, said, Context, state, is_of, fits_int, word_said, owners_said, same_truths, operated, as_class, index_fits}
 use Rattle.ss_vcgen_express.specs.Marked.{Marked, marked_part, marked_operation, marked_right, marked_under}
 use Rattle.ss_vcgen_walk.specs.declared.singles.Single.{Single}
 use Rattle.ss_vcgen_walk.specs.declared.singles.Single.TheVariants as single

@@ -4,7 +4,7 @@ use Rattle.ss_core.specs.Chain.{most_classes}
 use Rattle.ss_core.specs.Tree.{ExprTree}
 use Rattle.ss_core.specs.View as view
 use Rattle.ss_store_rules.specs.NonNull as rules
-use Rattle.ss_logic_express.specs.Express as spec
+use Rattle.ss_logic.specs.Express as spec
 use Rattle.ss_terms.specs.Forms.{Forms}
 use Rattle.ss_vcgen_known.specs.Views.{type_context_of, known_of, tested}
 use Rattle.ss_vcgen_express.specs.declared.meant.Meant.{Meant}

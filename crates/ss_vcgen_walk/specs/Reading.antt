@@ -3,7 +3,7 @@ use Rattle.std.specs.Prelude.{◌≡◌, ◌+◌, List, [], ◌∷◌, ◌++◌}
 use Rattle.ss_core.specs.Tree.{ExprTree}
 use Rattle.ss_core.specs.View as view
 use Rattle.ss_core.specs.declared.names.Ty.TheVariants as ty
-use Rattle.ss_logic_express.specs.Express as spec
+use Rattle.ss_logic.specs.Express as spec
 use Rattle.ss_terms.specs.declared.forms.TermId.{TermId}
 use Rattle.ss_terms.specs.Forms.{Forms, IsGrown}
 use Rattle.ss_vcgen_express.specs.declared.meant.Meant.{Meant}

@@ -1,7 +1,7 @@
 // What is asked of values, as parts.
 
 ghost use Rattle.std.specs.Prelude.{[], ◌∷◌, ◌++◌, ◌≡◌, OnOk};
-ghost use Rattle.ss_logic_express.specs.Express.{over, over_two};
+ghost use Rattle.ss_logic.specs.Express.{over, over_two};
 ghost use Rattle.ss_terms.specs.Forms.{term_at, IsGrown};
 ghost use Rattle.ss_vcgen_express.specs.Marked.{marked_part};
 ghost use Rattle.ss_vcgen_express.specs.Numbers.{meant_at, HasMeant};

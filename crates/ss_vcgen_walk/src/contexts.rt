@@ -1,7 +1,7 @@
 // Contexts inside `old` and inside a quantifier.
 
 ghost use Rattle.std.specs.Prelude.{◌≡◌, ◌+◌, IfOk};
-ghost use Rattle.ss_logic_express.specs.Express as spec;
+ghost use Rattle.ss_logic.specs.Express as spec;
 ghost use Rattle.ss_terms.specs.Forms.{Forms, IsGrown};
 ghost use Rattle.ss_vcgen_express.specs.Contexts.{context_at, HasContext};
 ghost use Rattle.ss_vcgen_walk.specs.Reading.{IsContext, IsWithName};

@@ -2,7 +2,7 @@
 
 ghost use Rattle.std.specs.Prelude.{[], ◌++◌, IfOk, OnOk, map};
 ghost use Rattle.ss_logic.specs.Formulas.{neg};
-ghost use Rattle.ss_logic_express.specs.Express.{said};
+ghost use Rattle.ss_logic.specs.Express.{said};
 ghost use Rattle.ss_terms.specs.Forms.{formula_at, formulas_at, HasFormula, HasFormulas, IsGrown};
 ghost use Rattle.ss_vcgen_express.specs.Marked.{marked_right, marked_under, with_marked};
 ghost use Rattle.ss_vcgen_express.specs.Numbers.{meant_at, HasMeant, IsFormula};

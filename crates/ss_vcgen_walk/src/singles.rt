@@ -2,11 +2,11 @@
 
 ghost use Rattle.std.specs.Prelude.{pos, true, [], ◌∷◌, ◌++◌, IfOk, OnOk};
 ghost use Rattle.ss_core.specs.View.{word_tree};
-ghost use Rattle.ss_logic_rules.specs.Shapes.{number};
+ghost use Rattle.ss_logic.specs.Shapes.{number};
 ghost use Rattle.ss_logic.specs.Formulas.{neg};
 ghost use Rattle.ss_logic.specs.Terms.{app};
 ghost use Rattle.ss_logic.specs.Terms as term;
-ghost use Rattle.ss_logic_express.specs.Express as spec;
+ghost use Rattle.ss_logic.specs.Express as spec;
 ghost use Rattle.ss_terms.specs.Forms.{IsGrown};
 ghost use Rattle.ss_vcgen_express.specs.Marked.{marked_part};
 ghost use Rattle.ss_core.specs.declared.names.Kind.TheVariants as kind;

@@ -6,7 +6,7 @@ ghost use Rattle.ss_core.specs.declared.names.Kind.TheVariants as kind;
 ghost use Rattle.ss_logic.specs.Formulas.{neg};
 ghost use Rattle.ss_logic.specs.Terms.{app};
 ghost use Rattle.ss_logic.specs.Terms as term;
-ghost use Rattle.ss_logic_express.specs.Express as spec;
+ghost use Rattle.ss_logic.specs.Express as spec;
 ghost use Rattle.ss_terms.specs.Forms.{symbol_of, IsGrown};
 ghost use Rattle.ss_vcgen_express.specs.Marked.{marked_part, marked_result, marked_operation};
 ghost use Rattle.ss_vcgen_express.specs.Numbers.{meant_at, HasMeant, IsMeant};

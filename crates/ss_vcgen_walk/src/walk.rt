@@ -6,8 +6,8 @@ ghost use Rattle.ss_core.specs.declared.names.Kind.TheVariants as kind;
 ghost use Rattle.ss_core.specs.Chain.{most_classes};
 ghost use Rattle.ss_core.specs.Tree.{ExprTree, CastExpr, OldExpr, StateExpr};
 ghost use Rattle.ss_core.specs.View.{expr, default_tree, classes, word_tree};
-ghost use Rattle.ss_logic_rules.specs.Shapes.{number, null_term};
-ghost use Rattle.ss_logic_express.specs.Express as spec;
+ghost use Rattle.ss_logic.specs.Shapes.{number, null_term};
+ghost use Rattle.ss_logic.specs.Express as spec;
 ghost use Rattle.ss_store_rules.specs.NonNull as rules;
 ghost use Rattle.ss_store_rules.specs.Types as types;
 ghost use Rattle.ss_terms.specs.Forms.{formulas_at, HasFormulas, IsGrown};
@@ -235,9 +235,9 @@ fn ask_fitting(
 
 // What a cast is to: the place of the cast, the class, and whether null is refused.
 #[derive(Clone, Copy)]
-struct Target<'e> {
+struct CastTo<'e> {
     at: &'e Place,
-    to: &'e ClassId,
+    class: &'e ClassId,
     mark: &'e bool,
 }
 
@@ -246,7 +246,7 @@ fn ask_cast(
     bank: &mut Bank,
     context: &ReadingContext<'_>,
     parts: &mut Vec<Part>,
-    target: Target<'_>,
+    target: CastTo<'_>,
     e: &Expr,
     m: &Meant,
 ) -> Result<(), AllocError>
@@ -254,7 +254,7 @@ fn ask_cast(
     requires context { HasContext bank.old context.now.expression.now }
     requires meant { HasMeant bank.old m.now }
     requires parts { HasParts bank.old parts.old.items }
-    ensures asked { OnOk result (AreParts bank.new parts.new.items (λ b. cast_asks (type_context_at context.now.nulls.now) (known_at context.now.nulls.now) (context_at b context.now.expression.now) target.entry.at.now target.entry.to.now.0 target.entry.mark.now (expr e.now) (parts_at b parts.old.items) (meant_at b m.now))) }
+    ensures asked { OnOk result (AreParts bank.new parts.new.items (λ b. cast_asks (type_context_at context.now.nulls.now) (known_at context.now.nulls.now) (context_at b context.now.expression.now) target.entry.at.now target.entry.class.now.0 target.entry.mark.now (expr e.now) (parts_at b parts.old.items) (meant_at b m.now))) }
     ensures grown { IsGrown bank.old bank.new }
 {
     let may_be_null = may_be_null(context, e);
@@ -270,9 +270,16 @@ fn ask_cast(
         *target.mark,
         passing,
     )?;
-    let checked = may_be_other(context.expression, e, *target.to);
+    let checked = may_be_other(context.expression, e, *target.class);
     let fitting = Subject { meant: m, checked };
-    ask_fitting(context.alloc, bank, parts, *target.at, *target.to, fitting)
+    ask_fitting(
+        context.alloc,
+        bank,
+        parts,
+        *target.at,
+        *target.class,
+        fitting,
+    )
 }
 
 // ---- quantifiers
@@ -352,7 +359,7 @@ pub fn express(
         }
         Expr::Negate(at, a) => one(bank, context, parts, a, Single::Negate(*at)),
         Expr::Not(_, a) => one(bank, context, parts, a, Single::Not),
-        Expr::Cast(at, to, mark, a) => cast(bank, context, parts, a, Target { at, to, mark }),
+        Expr::Cast(at, class, mark, a) => cast(bank, context, parts, a, CastTo { at, class, mark }),
         Expr::Path(place, first, steps) => {
             let m = express(bank, context, parts, first)?;
             path(bank, context, parts, steps, Start { at: *place, first }, m)
@@ -675,12 +682,12 @@ fn cast(
     context: &ReadingContext<'_>,
     parts: &mut Vec<Part>,
     e: &Expr,
-    target: Target<'_>,
+    target: CastTo<'_>,
 ) -> Result<Meant, AllocError>
     requires nulls { IsNullContext context.now.nulls.now }
     requires context { HasContext bank.old context.now.expression.now }
     requires parts { HasParts bank.old parts.old.items }
-    ensures expressed { IfOk result (λ r. Reads bank.new r parts.new.items parts.old.items (CastExpr target.entry.at.now target.entry.to.now.0 target.entry.mark.now (expr e.now)) context.now.nulls.now context.now.expression.now) }
+    ensures expressed { IfOk result (λ r. Reads bank.new r parts.new.items parts.old.items (CastExpr target.entry.at.now target.entry.class.now.0 target.entry.mark.now (expr e.now)) context.now.nulls.now context.now.expression.now) }
     ensures grown { IsGrown bank.old bank.new }
 {
     let m = express(bank, context, parts, e)?;

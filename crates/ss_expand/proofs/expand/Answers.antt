@@ -5,7 +5,7 @@ use Rattle.ss_core.specs.Tree.{CoreTree}
 use Rattle.ss_typed.specs.View.{typed}
 use Rattle.ss_store_rules.specs.Formed.{IsFormed}
 use Rattle.ss_expand_rules.specs.Elaborated.{elaborated}
-use Rattle.ss_expand_formed_whole.proofs.Whole.{elaboration_is_formed}
+use Rattle.ss_expand_formed.proofs.Whole.{elaboration_is_formed}
 use Rattle.ss_expand.proofs.expand.Goals as goal
 
 formed : {E : Type 0} (r : Result Core E) (c : CoreTree) → IsFormed c → IfOk r (λ x. core.core x ≡ c) → IfOk r (λ x. IsFormed (core.core x))

@@ -1,5 +1,5 @@
 use Rattle.ss_core.specs.View.{classes}
-use Rattle.ss_logic_rules.specs.GoodRules.{good_instance_of}
+use Rattle.ss_logic.specs.GoodRules.{good_instance_of}
 use Rattle.ss_terms.specs.Forms.{term_at, terms_at}
 use Rattle.ss_check_steps.proofs.Numbers.{as_number}
 use Rattle.ss_check.proofs.instances.good.Goals as goal

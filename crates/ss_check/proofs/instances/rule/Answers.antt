@@ -1,5 +1,5 @@
 use Rattle.ss_core.specs.View.{classes}
-use Rattle.ss_logic_rules.specs.Rules.{instance_of}
+use Rattle.ss_logic.specs.Rules.{instance_of}
 use Rattle.ss_terms.specs.Forms.{terms_at}
 use Rattle.ss_check_steps.proofs.Numbers.{as_number}
 use Rattle.ss_check.proofs.instances.rule.Goals as goal

@@ -1,5 +1,5 @@
 use Rattle.ss_core.specs.View.{classes}
-use Rattle.ss_logic_derivations.proofs.Bad.{bad-not_derived}
+use Rattle.ss_logic_means.proofs.Bad.{bad-not_derived}
 use Rattle.ss_terms.specs.Forms.{formula_at, formulas_at}
 use Rattle.ss_deriv.specs.Lines.{lines_of}
 use Rattle.ss_check.proofs.steps.check.Goals as goal

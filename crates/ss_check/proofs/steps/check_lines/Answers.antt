@@ -3,8 +3,8 @@ use Rattle.std.proofs.lemmas.List.{drop_all, length-map}
 use Rattle.std.proofs.lemmas.Bool.{false≢true}
 use Rattle.std.proofs.lemmas.Result.{err_from_is_err_and}
 use Rattle.ss_core.specs.View.{classes}
-use Rattle.ss_logic_derivations.proofs.Bad.{Derives-no_bad}
-use Rattle.ss_logic_derivations.proofs.Valid.{derived_valid}
+use Rattle.ss_logic_means.proofs.Bad.{Derives-no_bad}
+use Rattle.ss_logic_means.proofs.Valid.{derived_valid}
 use Rattle.ss_terms.specs.Forms.{formula_at, formulas_at}
 use Rattle.ss_deriv.specs.Lines.{line_of}
 use Rattle.ss_terms.proofs.Grown.{IsBankOf-grown, IsGrown-then, HasFormula-grown, HasFormulas-grown}

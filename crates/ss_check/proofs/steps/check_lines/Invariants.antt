@@ -1,6 +1,6 @@
 use Rattle.std.proofs.Common.{◌≡◌, ◌+◌, map, drop}
 use Rattle.ss_core.specs.View.{classes}
-use Rattle.ss_logic_derivations.specs.Steps.{bad_from, first_bad}
+use Rattle.ss_logic_means.specs.Steps.{bad_from, first_bad}
 use Rattle.ss_terms.specs.Forms.{IsGrown, formula_at, formulas_at}
 use Rattle.ss_deriv.specs.Lines.{line_of}
 use Rattle.ss_check_steps.specs.Stack.{AreCases, state_of}

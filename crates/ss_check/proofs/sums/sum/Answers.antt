@@ -1,7 +1,7 @@
 use Rattle.std.proofs.Common.{rules, SFits, to_z-of_z}
 use Rattle.std.specs.Int.{w64}
 use Rattle.ss_core.specs.View.{classes}
-use Rattle.ss_logic_sums.specs.Sums.{sum_of}
+use Rattle.ss_logic.specs.Sums.{sum_of}
 use Rattle.ss_terms.specs.Forms.{formulas_at}
 use Rattle.ss_check_steps.proofs.Numbers.{as_number}
 use Rattle.ss_check.proofs.sums.sum.Goals as goal

@@ -1,6 +1,6 @@
 use Rattle.std.proofs.Common.{refl, sym}
 use Rattle.ss_core.specs.View as view
-use Rattle.ss_logic_derivations.specs.Steps.{part_of}
+use Rattle.ss_logic_means.specs.Steps.{part_of}
 use Rattle.ss_terms.specs.Forms.{term_at, formula_at}
 use Rattle.ss_check.proofs.Meant.{part_delayed, told_equal}
 use Rattle.ss_check.proofs.told.part_told.Goals as goal

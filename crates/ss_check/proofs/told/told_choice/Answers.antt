@@ -1,6 +1,6 @@
 use Rattle.std.proofs.Common.{◌∷◌, ◌++◌, map, ap, sym, subst, ◌∙◌}
 use Rattle.ss_core.specs.View as view
-use Rattle.ss_logic_derivations.specs.Steps.{choice}
+use Rattle.ss_logic_means.specs.Steps.{choice}
 use Rattle.ss_terms.specs.Forms.{terms_at, formula_at, formulas_at}
 use Rattle.ss_terms.proofs.Grown.{HasTerms-grown, HasFormula-grown, HasFormulas-grown, IsBankOf-grown}
 use Rattle.ss_check_steps.specs.Numbered.{IsNumberOf}

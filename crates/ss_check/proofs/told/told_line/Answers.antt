@@ -1,6 +1,6 @@
 use Rattle.std.proofs.Common.{refl}
 use Rattle.ss_core.specs.View as view
-use Rattle.ss_logic_derivations.specs.Steps.{Inst as TreeInst, Part as TreePart, Choose as TreeChoose}
+use Rattle.ss_logic_means.specs.Steps.{Inst as TreeInst, Part as TreePart, Choose as TreeChoose}
 use Rattle.ss_terms.specs.Forms.{terms_at, formula_at, formulas_at}
 use Rattle.ss_check.proofs.Meant.{facts_same, adds_any}
 use Rattle.ss_check.proofs.told.told_line.Goals as goal

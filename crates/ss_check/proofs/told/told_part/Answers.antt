@@ -1,7 +1,7 @@
 use Rattle.std.proofs.Common.{ap, sym}
 use Rattle.std.specs.Prelude.{option_and_then}
 use Rattle.ss_core.specs.View as view
-use Rattle.ss_logic_derivations.specs.Steps.{part_of}
+use Rattle.ss_logic_means.specs.Steps.{part_of}
 use Rattle.ss_terms.specs.Forms.{formula_at, formulas_at}
 use Rattle.ss_check.proofs.Meant.{look_meant, told_equal}
 use Rattle.ss_check.proofs.told.told_part.Goals as goal

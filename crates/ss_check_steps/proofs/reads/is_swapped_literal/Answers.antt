@@ -1,7 +1,7 @@
 use Rattle.std.proofs.Common.{sym, ap, ◌∙◌}
 use Rattle.ss_logic.specs.Terms.{terms_from}
 use Rattle.ss_logic.specs.Formulas.{Literal}
-use Rattle.ss_logic_derivations.specs.Steps.{are_exchanged, is_swapped}
+use Rattle.ss_logic_means.specs.Steps.{are_exchanged, is_swapped}
 use Rattle.ss_terms.specs.Forms.{formulas_at, terms_at, predicate_of}
 use Rattle.ss_check_steps.proofs.Exchanged.{swapping}
 use Rattle.ss_check_steps.proofs.reads.is_swapped_literal.Goals as goal

@@ -1,5 +1,5 @@
 use Rattle.std.proofs.Common.{◌≡◌, drop}
-use Rattle.ss_logic_derivations.specs.Steps.{walk}
+use Rattle.ss_logic_means.specs.Steps.{walk}
 use Rattle.ss_terms.specs.Forms.{term_at, formulas_at, HasTerm}
 use Rattle.ss_check_steps.proofs.reads.walk_at.Given as goal
 

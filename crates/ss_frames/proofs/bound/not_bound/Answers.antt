@@ -1,7 +1,7 @@
 use Rattle.std.proofs.Common.{◌∙◌, ◌++◌, ap, map, sym, subst}
 use Rattle.ss_terms.specs.Forms.{HasTerms}
 use Rattle.ss_terms.proofs.Grown.{IsGrown-then, HasTerm-grown, HasTerms-grown}
-use Rattle.ss_logic_frames.specs.Frames.{the_object}
+use Rattle.ss_logic.specs.Frames.{the_object}
 use Rattle.ss_frames.specs.Calls.{HasOwned, group_at, owned_at}
 use Rattle.ss_frames.proofs.Growing.{IsTerm-grown, HasCall-grown}
 use Rattle.ss_frames.proofs.Making.{bound_made}

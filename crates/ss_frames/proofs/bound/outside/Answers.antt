@@ -1,7 +1,7 @@
 use Rattle.std.proofs.Common.{◌<◌, ◌≤◌, ◌∙◌, length, get_or, ap, map, sym, subst}
 use Rattle.std.proofs.lemmas.List.{take_all}
-use Rattle.ss_logic_rules.specs.Shapes.{equal}
-use Rattle.ss_logic_frames.specs.Frames.{the_object}
+use Rattle.ss_logic.specs.Shapes.{equal}
+use Rattle.ss_logic.specs.Frames.{the_object}
 use Rattle.ss_terms.specs.declared.forms.TermId.{TermId}
 use Rattle.ss_terms.specs.Forms.{term_at, HasTerms}
 use Rattle.ss_terms.proofs.Grown.{IsGrown-then, HasTerm-grown}

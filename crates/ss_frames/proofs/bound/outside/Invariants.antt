@@ -1,6 +1,6 @@
 use Rattle.std.proofs.Common.{map, take}
-use Rattle.ss_logic_rules.specs.Shapes.{equal}
-use Rattle.ss_logic_frames.specs.Frames.{the_object}
+use Rattle.ss_logic.specs.Shapes.{equal}
+use Rattle.ss_logic.specs.Frames.{the_object}
 use Rattle.ss_terms.specs.Forms.{term_at, IsGrown}
 use Rattle.ss_frames.specs.Calls.{AreMade}
 use Rattle.ss_frames.proofs.bound.outside.Given as goal

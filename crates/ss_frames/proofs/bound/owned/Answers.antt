@@ -1,5 +1,5 @@
 use Rattle.std.proofs.Common.{ap}
-use Rattle.ss_logic_rules.specs.Shapes.{equal, owner_of, pair_of, class_term}
+use Rattle.ss_logic.specs.Shapes.{equal, owner_of, pair_of, class_term}
 use Rattle.ss_terms.specs.Forms.{term_at}
 use Rattle.ss_terms_puts.proofs.Putting.{formula_equal}
 use Rattle.ss_frames.proofs.bound.owned.Goals as goal

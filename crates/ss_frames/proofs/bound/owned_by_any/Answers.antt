@@ -2,7 +2,7 @@ use Rattle.std.proofs.Common.{◌∙◌, refl, get_or}
 use Rattle.ss_core.specs.declared.names.ClassId.{ClassId}
 use Rattle.ss_terms.specs.declared.forms.TermId.{TermId}
 use Rattle.ss_terms.proofs.Grown.{IsGrown-then, HasTerm-grown}
-use Rattle.ss_logic_frames.specs.Frames.{the_object}
+use Rattle.ss_logic.specs.Frames.{the_object}
 use Rattle.ss_frames.specs.Calls.{owned_at}
 use Rattle.ss_frames.proofs.Growing.{IsTerm-grown, next_made, owned_at-grown, HasOwned-get}
 use Rattle.ss_frames.proofs.bound.owned_by_any.Goals as goal

@@ -1,7 +1,7 @@
 use Rattle.std.proofs.Common.{ap}
 use Rattle.ss_core.specs.View as view
 use Rattle.ss_logic.specs.Formulas.{And, formulas_from}
-use Rattle.ss_logic_frames.specs.Frames.{the_object, the_index, is_outside}
+use Rattle.ss_logic.specs.Frames.{the_object, the_index, is_outside}
 use Rattle.ss_terms.proofs.Grown.{IsGrown-refl, IsGrown-then, IsBankOf-grown}
 use Rattle.ss_terms_puts.proofs.Putting.{formula_equal}
 use Rattle.ss_frames.proofs.Growing.{IsTerm-grown, HasCall-grown}

@@ -1,6 +1,6 @@
 use Rattle.std.proofs.Common.{ap}
 use Rattle.ss_core.specs.View as view
-use Rattle.ss_logic_frames.specs.Frames.{the_object, kept}
+use Rattle.ss_logic.specs.Frames.{the_object, kept}
 use Rattle.ss_frames.specs.Calls.{call_at}
 use Rattle.ss_terms.proofs.Grown.{IsGrown-then, IsBankOf-grown}
 use Rattle.ss_terms_puts.proofs.Putting.{formula_equal}

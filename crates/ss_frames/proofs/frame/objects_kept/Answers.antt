@@ -2,7 +2,7 @@ use Rattle.std.proofs.Common.{[], ◌∷◌, ◌∙◌, ap, refl, sym, subst}
 use Rattle.ss_core.specs.View as view
 use Rattle.ss_logic.specs.declared.Sort.TheVariants as sort
 use Rattle.ss_logic.specs.Formulas.{Forall}
-use Rattle.ss_logic_frames.specs.Frames.{the_object, is_outside}
+use Rattle.ss_logic.specs.Frames.{the_object, is_outside}
 use Rattle.ss_terms.proofs.Grown.{IsGrown-refl, IsGrown-then, HasFormulas-grown}
 use Rattle.ss_terms_puts.proofs.Putting.{formula_equal}
 use Rattle.ss_frames.specs.Calls.{AreNamed}

@@ -1,8 +1,8 @@
 use Rattle.std.proofs.Common.{[], ◌∷◌, ◌∙◌, ◌++◌, ap}
 use Rattle.ss_logic.specs.declared.Sort.TheVariants as sort
 use Rattle.ss_logic.specs.Formulas.{Forall}
-use Rattle.ss_logic_rules.specs.Shapes.{equal, level_of, type_of}
-use Rattle.ss_logic_frames.specs.Frames.{the_object}
+use Rattle.ss_logic.specs.Shapes.{equal, level_of, type_of}
+use Rattle.ss_logic.specs.Frames.{the_object}
 use Rattle.ss_terms_puts.proofs.Putting.{formula_equal}
 use Rattle.ss_frames.proofs.Growing.{IsTerm-grown, HasCall-grown, AreMade-as, unless_says}
 use Rattle.ss_frames.proofs.Making.{call_made, other_parts}

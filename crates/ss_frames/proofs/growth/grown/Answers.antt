@@ -1,5 +1,5 @@
 use Rattle.std.proofs.Common.{ap₂}
-use Rattle.ss_logic_frames.specs.Frames.{grown}
+use Rattle.ss_logic.specs.Frames.{grown}
 use Rattle.ss_terms.specs.Forms.{term_at}
 use Rattle.ss_terms_puts.proofs.Putting.{formula_equal}
 use Rattle.ss_frames.proofs.Meaning.{made_grown_means}

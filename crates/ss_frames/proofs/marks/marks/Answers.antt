@@ -1,6 +1,6 @@
 use Rattle.std.proofs.Common.{◌≡◌, ◌<◌, ◌+◌, length, map, take, get_or, ap, sym, subst}
 use Rattle.ss_core.specs.View as view
-use Rattle.ss_logic_frames.specs.Frames.{the_object}
+use Rattle.ss_logic.specs.Frames.{the_object}
 use Rattle.ss_terms.proofs.Grown.{IsGrown-then, IsBankOf-grown}
 use Rattle.ss_frames.specs.declared.calls.NamedTerm.{NamedTerm}
 use Rattle.ss_frames.specs.declared.calls.NamedTerm.TheVariants.{At}

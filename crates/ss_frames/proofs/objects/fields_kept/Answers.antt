@@ -1,6 +1,6 @@
 use Rattle.std.proofs.Common.{subst}
 use Rattle.ss_core.specs.View as view
-use Rattle.ss_logic_frames.specs.Frames.{the_object, field_kept}
+use Rattle.ss_logic.specs.Frames.{the_object, field_kept}
 use Rattle.ss_terms.proofs.Grown.{IsGrown-then}
 use Rattle.ss_frames.specs.Calls.{call_at, IsMade}
 use Rattle.ss_frames.proofs.Growing.{IsTerm-grown, HasCall-grown, AreNamed-grown}

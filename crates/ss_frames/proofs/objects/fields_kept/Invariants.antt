@@ -1,5 +1,5 @@
 use Rattle.ss_core.specs.View as view
-use Rattle.ss_logic_frames.specs.Frames.{fields_kept}
+use Rattle.ss_logic.specs.Frames.{fields_kept}
 use Rattle.ss_terms.specs.Forms.{IsGrown}
 use Rattle.ss_frames.specs.Calls.{call_at, AreMade}
 use Rattle.ss_frames.proofs.objects.fields_kept.Given as goal

@@ -1,5 +1,5 @@
 use Rattle.std.proofs.Common.{ap}
-use Rattle.ss_logic_rules.specs.Shapes.{equal, level_of, type_of}
+use Rattle.ss_logic.specs.Shapes.{equal, level_of, type_of}
 use Rattle.ss_terms.specs.Forms.{term_at}
 use Rattle.ss_terms_puts.proofs.Putting.{formula_equal}
 use Rattle.ss_frames.proofs.same.is_full.Goals as goal

@@ -1,6 +1,6 @@
 use Rattle.std.proofs.Common.{ap}
 use Rattle.ss_logic.specs.Formulas.{Or, formulas_from}
-use Rattle.ss_logic_frames.specs.Frames.{the_object}
+use Rattle.ss_logic.specs.Frames.{the_object}
 use Rattle.ss_terms_puts.proofs.Putting.{formula_equal}
 use Rattle.ss_frames.proofs.Growing.{IsTerm-grown, HasCall-grown}
 use Rattle.ss_frames.proofs.Making.{committed_made}

@@ -1,5 +1,5 @@
 use Rattle.std.proofs.Common.{ap, ◌∙◌}
-use Rattle.ss_logic_frames.specs.Frames.{the_object}
+use Rattle.ss_logic.specs.Frames.{the_object}
 use Rattle.ss_terms.specs.Forms.{term_at}
 use Rattle.ss_terms_puts.proofs.Putting.{formula_equal}
 use Rattle.ss_frames.proofs.Growing.{elements_same}

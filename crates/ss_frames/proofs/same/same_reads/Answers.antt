@@ -1,6 +1,6 @@
 use Rattle.std.proofs.Common.{ap, [], ◌∷◌}
 use Rattle.ss_logic.specs.Terms.{app}
-use Rattle.ss_logic_rules.specs.Shapes.{equal}
+use Rattle.ss_logic.specs.Shapes.{equal}
 use Rattle.ss_terms.specs.Forms.{term_at, symbol_of}
 use Rattle.ss_terms_puts.proofs.Putting.{formula_equal}
 use Rattle.ss_frames.proofs.same.same_reads.Goals as goal

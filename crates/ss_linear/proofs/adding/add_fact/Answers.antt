@@ -1,5 +1,5 @@
 use Rattle.std.proofs.Common.{subst, sym, ap, Option, option_and_then, to_z-of_z, arith}
-use Rattle.ss_logic_sums.specs.Sums as sums
+use Rattle.ss_logic.specs.Sums as sums
 use Rattle.ss_linear_sums.specs.declared.forms.SumFact.{SumFact}
 use Rattle.ss_linear_sums.specs.Linear.{sum_at, IsFactOf}
 use Rattle.ss_linear_rules.specs.Two.{fact_at}

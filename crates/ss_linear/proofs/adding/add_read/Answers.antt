@@ -1,5 +1,5 @@
 use Rattle.std.proofs.Common.{ap, option_and_then, to_z-of_z}
-use Rattle.ss_logic_sums.specs.Sums as sums
+use Rattle.ss_logic.specs.Sums as sums
 use Rattle.ss_linear_sums.specs.Linear.{sum_at, fact_at}
 use Rattle.ss_linear.proofs.Results.{became}
 use Rattle.ss_linear.proofs.adding.add_read.Goals as goal

@@ -1,7 +1,7 @@
 use Rattle.std.proofs.Common.{◌≡◌, pos, List, drop}
 use Rattle.ss_core.specs.Tree.{ClassTree}
 use Rattle.ss_logic.specs.Formulas.{Formula}
-use Rattle.ss_logic_sums.specs.Sums as sums
+use Rattle.ss_logic.specs.Sums as sums
 use Rattle.ss_linear_sums.specs.Linear.{sum_at, HasParts}
 use Rattle.ss_linear.specs.Results.{AreFacts}
 use Rattle.ss_linear.proofs.adding.weighted.Given as goal

@@ -1,6 +1,6 @@
 use Rattle.std.proofs.Common.{◌≡◌, ℤ, List, [], ◌++◌, drop, Some}
 use Rattle.ss_logic.specs.Terms.{Term}
-use Rattle.ss_logic_sums.specs.Sums as sums
+use Rattle.ss_logic.specs.Sums as sums
 use Rattle.ss_linear_sums.specs.Linear.{parts_at, HasParts}
 use Rattle.ss_linear_sums.specs.Table.{AreKept}
 use Rattle.ss_linear.specs.Results.{AreNext}

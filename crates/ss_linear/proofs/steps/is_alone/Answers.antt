@@ -1,7 +1,7 @@
 use Rattle.std.proofs.Common.{rules, SFits, to_z-of_z, sym, ◌∙◌}
 use Rattle.std.specs.Int.{w128}
-use Rattle.ss_logic_sums.specs.Sums.{linear}
-use Rattle.ss_logic_sums.proofs.Numbers.{zero_is}
+use Rattle.ss_logic.specs.Sums.{linear}
+use Rattle.ss_logic.proofs.NumbersInSums.{zero_is}
 use Rattle.ss_terms.specs.Forms.{term_at}
 use Rattle.ss_linear.proofs.Results.{alone}
 use Rattle.ss_linear.proofs.steps.is_alone.Goals as goal

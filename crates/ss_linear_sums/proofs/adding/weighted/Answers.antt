@@ -1,7 +1,7 @@
 use Rattle.std.proofs.Common.{rules, sym, ◌∙◌, ap, SFits, to_z-of_z, get_or, pos}
 use Rattle.std.specs.Int.{w64, w128}
 use Rattle.std.proofs.lemmas.List.{drop_all}
-use Rattle.ss_logic_sums.specs.Sums as sums
+use Rattle.ss_logic.specs.Sums as sums
 use Rattle.ss_terms.specs.Forms.{formulas_at}
 use Rattle.ss_linear_sums.specs.Linear.{sum_at}
 use Rattle.ss_linear_sums.proofs.Weights.{facts_stop, facts_go_on}

@@ -1,6 +1,6 @@
 use Rattle.std.proofs.Common.{◌≡◌, pos, List, drop}
 use Rattle.ss_core.specs.Tree.{ClassTree}
-use Rattle.ss_logic_sums.specs.Sums as sums
+use Rattle.ss_logic.specs.Sums as sums
 use Rattle.ss_terms.specs.Forms.{formulas_at, IsBankOf}
 use Rattle.ss_linear_sums.specs.Linear.{sum_at, HasParts}
 use Rattle.ss_linear_sums.specs.Table.{AreKept}

@@ -1,6 +1,6 @@
 use Rattle.std.proofs.Common.{◌≤◌, [], length, Some, sym, ◌∙◌, ap, subst, to_z-of_z}
 use Rattle.std.proofs.lemmas.List.{drop_all, length-map, append-nil}
-use Rattle.ss_logic_sums.specs.Sums as sums
+use Rattle.ss_logic.specs.Sums as sums
 use Rattle.ss_linear_sums.specs.Linear.{parts_at, HasParts}
 use Rattle.ss_linear_sums.proofs.Places.{HasParts-get, HasParts-append}
 use Rattle.ss_linear_sums.proofs.Quotients.{divided_has, divided_stop, divided_none, divided_some, joined_parts}

@@ -1,6 +1,6 @@
 use Rattle.std.proofs.Common.{◌≤◌, length, sym, ◌∙◌, ap}
 use Rattle.std.proofs.lemmas.List.{drop_all, length-map}
-use Rattle.ss_logic_sums.specs.Sums as sums
+use Rattle.ss_logic.specs.Sums as sums
 use Rattle.ss_terms.specs.Forms.{term_at}
 use Rattle.ss_terms.proofs.Grown.{IsGrown-then, HasTerm-grown}
 use Rattle.ss_linear_sums.specs.Linear.{parts_at}

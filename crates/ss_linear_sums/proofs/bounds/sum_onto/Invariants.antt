@@ -1,5 +1,5 @@
 use Rattle.std.proofs.Common.{◌≡◌, drop}
-use Rattle.ss_logic_sums.specs.Sums as sums
+use Rattle.ss_logic.specs.Sums as sums
 use Rattle.ss_terms.specs.Forms.{term_at, HasTerm, IsGrown}
 use Rattle.ss_linear_sums.specs.Linear.{parts_at}
 use Rattle.ss_linear_sums.proofs.bounds.sum_onto.Given as goal

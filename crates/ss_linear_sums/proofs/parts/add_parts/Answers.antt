@@ -1,6 +1,6 @@
 use Rattle.std.proofs.Common.{◌≤◌, length, sym, ◌∙◌, ap, to_z-of_z}
 use Rattle.std.proofs.lemmas.List.{drop_all, length-map}
-use Rattle.ss_logic_sums.specs.Sums as sums
+use Rattle.ss_logic.specs.Sums as sums
 use Rattle.ss_linear_sums.specs.Linear.{parts_at}
 use Rattle.ss_linear_sums.proofs.Places.{HasParts-get, parts_stop, parts_go_on}
 use Rattle.ss_linear_sums.proofs.parts.add_parts.Goals as goal

@@ -1,5 +1,5 @@
 use Rattle.std.proofs.Common.{◌≡◌, drop}
-use Rattle.ss_logic_sums.specs.Sums as sums
+use Rattle.ss_logic.specs.Sums as sums
 use Rattle.ss_linear_sums.specs.Linear.{parts_at, HasParts}
 use Rattle.ss_linear_sums.proofs.parts.add_parts.Given as goal
 

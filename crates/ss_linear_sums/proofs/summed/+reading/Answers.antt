@@ -1,6 +1,6 @@
 use Rattle.std.proofs.Common.{rules, SFits, to_z-of_z}
 use Rattle.std.specs.Int.{w128}
-use Rattle.ss_logic_sums.specs.Sums.{linear}
+use Rattle.ss_logic.specs.Sums.{linear}
 use Rattle.ss_terms.specs.Forms.{term_at}
 use Rattle.ss_linear_sums.proofs.Summing.{second_none}
 use Rattle.ss_linear_sums.proofs.summed.+reading.Goals as goal

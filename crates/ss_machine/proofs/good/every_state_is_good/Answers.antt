@@ -1,5 +1,5 @@
 use Rattle.ss_core.specs.View as view
-use Rattle.ss_machine_good_runs.proofs.Runs.{run_good}
+use Rattle.ss_machine_good.proofs.Runs.{run_good}
 use Rattle.ss_machine.proofs.good.every_state_is_good.Goals as goal
 
 pub returns : goal.returns

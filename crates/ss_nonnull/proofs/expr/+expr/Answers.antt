@@ -7,7 +7,7 @@ use Rattle.ss_typed.specs.Tree.{ExprTree, BinaryOf, IsOf, AsOf, FieldOf, Element
 use Rattle.ss_typed.specs.View.{expr}
 use Rattle.ss_nonnull_rules.specs.Faults.{inside, wanted_if, handed}
 use Rattle.ss_typed.specs.Parts.{link_behind, step_behind}
-use Rattle.ss_nonnull_facts.specs.Called.{called_types}
+use Rattle.ss_nonnull_seen.specs.Called.{called_types}
 use Rattle.ss_typed.proofs.Grouping.{as_is, call_is, element_is, field_is, is_is, length_is, operation_is}
 use Rattle.ss_nonnull_seen.specs.Codes.{path_of, context_of, seen_of}
 use Rattle.ss_nonnull_seen.specs.Seen.{seen, plain}

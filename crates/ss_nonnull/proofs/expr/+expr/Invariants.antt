@@ -3,7 +3,7 @@ use Rattle.ss_typed.specs.Tree.{ExprTree, arguments}
 use Rattle.ss_typed.specs.View.{grouped, expr}
 use Rattle.ss_nonnull_rules.specs.Faults.{handed}
 use Rattle.ss_typed.specs.Parts.{link_behind, step_behind}
-use Rattle.ss_nonnull_facts.specs.Called.{called_types}
+use Rattle.ss_nonnull_seen.specs.Called.{called_types}
 use Rattle.ss_nonnull_seen.specs.Codes.{path_of, context_of, seen_of}
 use Rattle.ss_nonnull_seen.specs.Seen.{Leads}
 use Rattle.ss_nonnull.proofs.expr.+expr.Given as goal

@@ -3,7 +3,7 @@ use Rattle.ss_core.specs.View.{core}
 use Rattle.ss_terms.specs.declared.forms.FormulaId.{FormulaId}
 use Rattle.ss_terms.specs.Forms.{Forms}
 use Rattle.ss_vcgen_builder.specs.Builder.{obligations_at}
-use Rattle.ss_search.specs.Listed.{countered_numbers, undecided_numbers, AreRisingFrom}
+use Rattle.ss_search_answers.specs.Listed.{countered_numbers, undecided_numbers, AreRisingFrom}
 use Rattle.ss_report.specs.Verdict.{listed_text, lines_from}
 use Rattle.ss_report.proofs.verdict.listed_lines.Given as goal
 

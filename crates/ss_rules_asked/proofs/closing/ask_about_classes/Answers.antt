@@ -1,6 +1,6 @@
 use Rattle.std.proofs.Common.{◌++◌, sym, ◌∙◌, ap}
 use Rattle.std.specs.Prelude.{flat_map, filter_map}
-use Rattle.ss_logic_ground.specs.Asked as spec
+use Rattle.ss_logic.specs.Asked as spec
 use Rattle.ss_terms.specs.Forms.{terms_at, formulas_at}
 use Rattle.ss_rules_asked.specs.Readings.{all_counts_at}
 use Rattle.ss_rules_asked.proofs.Asking.{asked_then, asked_and}

@@ -1,7 +1,7 @@
 use Rattle.std.proofs.Common.{◌++◌, sym, ◌∙◌, ap}
 use Rattle.std.specs.Prelude.{flat_map, filter}
 use Rattle.ss_core.specs.View as view
-use Rattle.ss_logic_ground.specs.Asked as spec
+use Rattle.ss_logic.specs.Asked as spec
 use Rattle.ss_terms.specs.Forms.{terms_at}
 use Rattle.ss_rules_asked.proofs.Asking.{asked_then, asked_and}
 use Rattle.ss_rules_asked.proofs.closing.ask_about_values.Goals as goal

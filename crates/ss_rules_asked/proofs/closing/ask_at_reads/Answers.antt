@@ -1,4 +1,4 @@
-use Rattle.ss_logic_ground.specs.Asked as spec
+use Rattle.ss_logic.specs.Asked as spec
 use Rattle.ss_terms.specs.Forms.{formulas_at}
 use Rattle.ss_rules_asked.specs.Numbers.{asked_in}
 use Rattle.ss_rules_asked.specs.Readings.{reading_at}

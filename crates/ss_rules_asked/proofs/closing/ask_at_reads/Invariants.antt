@@ -1,6 +1,6 @@
 use Rattle.std.proofs.Common.{◌++◌, take}
 use Rattle.std.specs.Prelude.{flat_map}
-use Rattle.ss_logic_ground.specs.Asked as spec
+use Rattle.ss_logic.specs.Asked as spec
 use Rattle.ss_terms.specs.Forms.{formulas_at}
 use Rattle.ss_rules_asked.specs.Numbers.{asked_in, Asks}
 use Rattle.ss_rules_asked.specs.Readings.{readings_at}

@@ -1,5 +1,5 @@
 use Rattle.std.proofs.Common.{◌≡◌, ◌++◌, ◌-◌, ◌≤◌, length, drop}
-use Rattle.ss_logic_ground.specs.Asked as spec
+use Rattle.ss_logic.specs.Asked as spec
 use Rattle.ss_rules_asked.specs.Numbers.{asked_in, HasAsked}
 use Rattle.ss_rules_asked.specs.Readings.{all_counts_at}
 use Rattle.ss_rules_asked.proofs.couples.ask_of_counts.Given as goal

@@ -1,4 +1,4 @@
-use Rattle.ss_logic_ground.specs.Asked as spec
+use Rattle.ss_logic.specs.Asked as spec
 use Rattle.ss_terms.specs.declared.forms.TermId.{TermId}
 use Rattle.ss_terms.specs.Forms.{term_at}
 use Rattle.ss_terms.proofs.Tested.{AreTermsBelow-get}

@@ -1,4 +1,4 @@
-use Rattle.ss_logic_ground.specs.Asked as spec
+use Rattle.ss_logic.specs.Asked as spec
 use Rattle.ss_terms.specs.Forms.{formula_at}
 use Rattle.ss_terms.proofs.Tested.{AreBelow-get}
 use Rattle.ss_rules_asked_first.proofs.Gathering.{terms_next}

@@ -1,6 +1,6 @@
 use Rattle.std.proofs.Common.{[], ◌∷◌, subst, sym}
-use Rattle.ss_logic_rules.specs.declared.GoodRule.TheVariants as good_rule
-use Rattle.ss_logic_ground.specs.Asked.{OfGood, numeral}
+use Rattle.ss_logic.specs.declared.GoodRule.TheVariants as good_rule
+use Rattle.ss_logic.specs.Asked.{OfGood, numeral}
 use Rattle.ss_terms.specs.declared.forms.TermId.{TermId}
 use Rattle.ss_terms.specs.Forms.{term_at, HasTerms}
 use Rattle.ss_terms.proofs.Tested.{AreTermsBelow-get}

@@ -1,6 +1,6 @@
 use Rattle.std.proofs.Common.{[], ◌∷◌, ◌++◌, map, take}
-use Rattle.ss_logic_rules.specs.declared.GoodRule.TheVariants as good_rule
-use Rattle.ss_logic_ground.specs.Asked.{OfGood, numeral}
+use Rattle.ss_logic.specs.declared.GoodRule.TheVariants as good_rule
+use Rattle.ss_logic.specs.Asked.{OfGood, numeral}
 use Rattle.ss_terms.specs.Forms.{term_at, terms_at}
 use Rattle.ss_rules_asked.specs.Numbers.{asked_in, Asks}
 use Rattle.ss_rules_asked_first.proofs.goods.ask_at_lengths.Given as goal

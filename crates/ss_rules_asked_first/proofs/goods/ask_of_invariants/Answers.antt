@@ -1,5 +1,5 @@
 use Rattle.std.proofs.Common.{[], ◌∷◌, map, ◌++◌, ap, sym, ◌∙◌}
-use Rattle.ss_logic_ground.specs.Asked.{OfInvariants}
+use Rattle.ss_logic.specs.Asked.{OfInvariants}
 use Rattle.ss_terms.specs.Forms.{term_at}
 use Rattle.ss_rules_asked.specs.Numbers.{arguments_at, asked_in}
 use Rattle.ss_rules_asked.specs.Readings.{reading_at}

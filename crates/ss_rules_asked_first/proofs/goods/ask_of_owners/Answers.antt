@@ -1,6 +1,6 @@
 use Rattle.std.proofs.Common.{map, ◌++◌, ap, ◌∙◌}
-use Rattle.ss_logic_rules.specs.declared.GoodRule.TheVariants as good_rule
-use Rattle.ss_logic_ground.specs.Asked.{OfGood}
+use Rattle.ss_logic.specs.declared.GoodRule.TheVariants as good_rule
+use Rattle.ss_logic.specs.Asked.{OfGood}
 use Rattle.ss_terms.specs.Forms.{term_at}
 use Rattle.ss_rules_asked.specs.Numbers.{arguments_at, asked_in}
 use Rattle.ss_rules_asked_first.specs.Good.{owners_at, owner_parts}

@@ -1,6 +1,6 @@
 use Rattle.std.proofs.Common.{sym, ◌∙◌, ap}
 use Rattle.ss_core.specs.View as view
-use Rattle.ss_logic_ground.specs.Asked.{is_empty}
+use Rattle.ss_logic.specs.Asked.{is_empty}
 use Rattle.ss_rules_asked_first.proofs.Declaring.{class_pushed}
 use Rattle.ss_rules_asked_first.proofs.names.add_with_invariants.Goals as goal
 

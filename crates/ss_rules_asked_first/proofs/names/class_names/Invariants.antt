@@ -1,6 +1,6 @@
 use Rattle.std.proofs.Common.{◌≡◌, ◌+◌, ◌*◌, map, take}
 use Rattle.ss_core.specs.View as view
-use Rattle.ss_logic_ground.specs.Asked as spec
+use Rattle.ss_logic.specs.Asked as spec
 use Rattle.ss_rules_asked_first.specs.Named.{AreArguments}
 use Rattle.ss_rules_asked_first.proofs.names.class_names.Given as goal
 

@@ -1,6 +1,6 @@
 use Rattle.std.proofs.Common.{take}
 use Rattle.std.specs.Prelude.{filter_map}
-use Rattle.ss_logic_ground.specs.Asked as spec
+use Rattle.ss_logic.specs.Asked as spec
 use Rattle.ss_terms.specs.Forms.{terms_at}
 use Rattle.ss_rules_asked_first.specs.Good.{AreOwners}
 use Rattle.ss_rules_asked_first.proofs.owners.owners.Given as goal

@@ -1,10 +1,10 @@
 use Rattle.std.proofs.Common.{subst}
 use Rattle.std.specs.Prelude.{IfOk}
 use Rattle.ss_core.specs.View as view
-use Rattle.ss_logic_rules.specs.Reads.{look_from}
+use Rattle.ss_logic.specs.Reads.{look_from}
 use Rattle.ss_terms.specs.Forms.{term_at, terms_at}
 use Rattle.ss_rules_basic.specs.Arguments.{IsInstance}
-use Rattle.ss_rules_looks.specs.Looks.{look_in}
+use Rattle.ss_rules_basic.specs.Looks.{look_in}
 use Rattle.ss_rules_good.proofs.Fits.{typed_fit, typed_none}
 use Rattle.ss_rules_good.proofs.typed.typed_named.Goals as goal
 

@@ -1,5 +1,5 @@
 use Rattle.ss_core.specs.View as view
-use Rattle.ss_logic_rules.specs.GoodRules.{good_instance_of}
+use Rattle.ss_logic.specs.GoodRules.{good_instance_of}
 use Rattle.ss_terms.specs.Forms.{term_at, terms_at}
 use Rattle.ss_rules_instances.proofs.Limits.{by_number, few_fields}
 use Rattle.ss_rules_instances.proofs.good.good_instance.Goals as goal

@@ -1,5 +1,5 @@
 use Rattle.ss_core.specs.View as view
-use Rattle.ss_logic_rules.specs.Rules.{instance_of}
+use Rattle.ss_logic.specs.Rules.{instance_of}
 use Rattle.ss_terms.specs.Forms.{terms_at}
 use Rattle.ss_rules_instances.proofs.Limits.{by_number}
 use Rattle.ss_rules_instances.proofs.rules.instance.Goals as goal

@@ -1,6 +1,6 @@
 use Rattle.std.proofs.Common.{◌≡◌}
 use Rattle.ss_logic.specs.Terms.{terms_from}
-use Rattle.ss_logic_ground.specs.Occurring.{with_arguments}
+use Rattle.ss_logic.specs.Occurring.{with_arguments}
 use Rattle.ss_terms.specs.Forms.{terms_at, HasTerms}
 use Rattle.ss_rules_occurring.specs.Found.{terms_of, HasFoundTerms}
 use Rattle.ss_rules_occurring.specs.Stack.{awaited, stack_size}

@@ -1,5 +1,5 @@
 use Rattle.std.proofs.Common.{[], take}
-use Rattle.ss_logic_ground.specs.Occurring.{with_terms_of_all}
+use Rattle.ss_logic.specs.Occurring.{with_terms_of_all}
 use Rattle.ss_terms.specs.Forms.{formulas_at}
 use Rattle.ss_rules_occurring.specs.Found.{HoldsTerms}
 use Rattle.ss_rules_occurring.proofs.walking.terms.Given as goal

@@ -1,5 +1,5 @@
 use Rattle.std.proofs.Common.{ap, ◌∙◌}
-use Rattle.ss_logic_ground.specs.Opened.{fresh_constant}
+use Rattle.ss_logic.specs.Opened.{fresh_constant}
 use Rattle.ss_terms.specs.Forms.{terms_at}
 use Rattle.ss_rules_opened.proofs.Fresh.{has_in_front, in_front, has_pushed, pushed}
 use Rattle.ss_rules_opened.proofs.constants.add_fresh.Goals as goal

@@ -1,5 +1,5 @@
 use Rattle.std.proofs.Common.{◌≡◌}
-use Rattle.ss_logic_ground.specs.Opened.{fresh_constants}
+use Rattle.ss_logic.specs.Opened.{fresh_constants}
 use Rattle.ss_terms.specs.Forms.{terms_at, HasTerms, IsGrown}
 use Rattle.ss_rules_opened.proofs.Fresh.{fresh_from}
 use Rattle.ss_rules_opened.proofs.constants.fresh_constants.Given as goal

@@ -1,8 +1,8 @@
 use Rattle.std.proofs.Common.{sym}
-use Rattle.ss_logic_ground.specs.Opened.{is_numbered}
+use Rattle.ss_logic.specs.Opened.{is_numbered}
 use Rattle.ss_terms.specs.Forms.{term_at}
 use Rattle.ss_terms.proofs.Tested.{AreTermsBelow-get}
-use Rattle.ss_rules_matching.proofs.Kept.{none_next, one_is}
+use Rattle.ss_rules_opened.proofs.Kept.{none_next, one_is}
 use Rattle.ss_rules_opened.proofs.constants.is_taken.Goals as goal
 
 pub is_numbered-requires : goal.is_numbered-requires

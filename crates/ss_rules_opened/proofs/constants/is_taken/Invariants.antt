@@ -1,6 +1,6 @@
 use Rattle.std.proofs.Common.{◌≡◌, take, false}
 use Rattle.std.specs.List.{list_any}
-use Rattle.ss_logic_ground.specs.Opened.{is_numbered}
+use Rattle.ss_logic.specs.Opened.{is_numbered}
 use Rattle.ss_terms.specs.Forms.{terms_at}
 use Rattle.ss_rules_opened.proofs.constants.is_taken.Given as goal
 

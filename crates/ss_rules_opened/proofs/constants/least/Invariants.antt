@@ -1,5 +1,5 @@
 use Rattle.std.proofs.Common.{◌≡◌, ◌-◌, ◌≤◌, length}
-use Rattle.ss_logic_ground.specs.Opened.{least_from}
+use Rattle.ss_logic.specs.Opened.{least_from}
 use Rattle.ss_terms.specs.Forms.{terms_at}
 use Rattle.ss_rules_opened.proofs.constants.least.Given as goal
 

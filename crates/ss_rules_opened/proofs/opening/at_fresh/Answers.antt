@@ -1,6 +1,6 @@
 use Rattle.std.proofs.Common.{ap, ◌∙◌}
 use Rattle.ss_logic.specs.Formulas.{put}
-use Rattle.ss_logic_ground.specs.Opened.{fresh_constants}
+use Rattle.ss_logic.specs.Opened.{fresh_constants}
 use Rattle.ss_terms.specs.Forms.{terms_at, formula_at}
 use Rattle.ss_terms.proofs.Grown.{HasTerms-grown, terms_at-grown}
 use Rattle.ss_rules_opened.proofs.opening.at_fresh.Goals as goal

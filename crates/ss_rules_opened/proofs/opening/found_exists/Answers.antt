@@ -1,5 +1,5 @@
 use Rattle.std.proofs.Common.{sym}
-use Rattle.ss_logic_ground.specs.Opened.{is_exists}
+use Rattle.ss_logic.specs.Opened.{is_exists}
 use Rattle.ss_terms.proofs.Tested.{AreBelow-get}
 use Rattle.ss_rules_opened.proofs.Going.{none_next, number_here}
 use Rattle.ss_rules_opened.proofs.opening.found_exists.Goals as goal

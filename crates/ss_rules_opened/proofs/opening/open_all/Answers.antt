@@ -1,7 +1,7 @@
 use Rattle.std.proofs.Common.{ap, subst}
 use Rattle.std.specs.Prelude.{find}
-use Rattle.ss_logic_ground.specs.Occurring.{quantified}
-use Rattle.ss_logic_ground.specs.Opened.{is_exists}
+use Rattle.ss_logic.specs.Occurring.{quantified}
+use Rattle.ss_logic.specs.Opened.{is_exists}
 use Rattle.ss_terms.specs.Forms.{terms_at, formulas_at, IsFormulaNumber}
 use Rattle.ss_terms.proofs.Grown.{IsGrown-then}
 use Rattle.ss_rules_opened.proofs.Going.{number_same, opening_itself, opened_next, fewer_left}

@@ -1,10 +1,10 @@
 use Rattle.std.proofs.Common.{◌≡◌, List}
 use Rattle.std.specs.Prelude.{sum_by}
-use Rattle.ss_logic_ground.specs.Opened.{exists_count}
+use Rattle.ss_logic.specs.Opened.{exists_count}
 use Rattle.ss_terms.specs.Forms.{terms_at, formulas_at, IsGrown}
 use Rattle.ss_core.specs.View as view
 use Rattle.ss_logic.specs.Formulas.{Formula}
-use Rattle.ss_logic_origins.specs.Starting.{IsStart}
+use Rattle.ss_logic_means.specs.Starting.{IsStart}
 use Rattle.ss_rules_opened.specs.Opening.{HasOpening}
 use Rattle.ss_rules_opened.specs.Choices.{choices_at, HasChoices}
 use Rattle.ss_rules_opened.proofs.Counting.{all_opened}

@@ -1,6 +1,6 @@
 use Rattle.std.proofs.Common.{[], ◌∷◌, ◌++◌, map, ap, ◌∙◌, refl}
 use Rattle.ss_logic.specs.Formulas.{put}
-use Rattle.ss_logic_ground.specs.Opened.{fresh_constants, replaced}
+use Rattle.ss_logic.specs.Opened.{fresh_constants, replaced}
 use Rattle.ss_terms.specs.Forms.{terms_at, formula_at, formulas_at}
 use Rattle.ss_terms.proofs.Grown.{IsGrown-then, HasTerms-grown, HasFormula-grown, HasFormulas-grown, terms_at-grown, formulas_at-grown}
 use Rattle.ss_rules_opened.specs.Choices.{choice_of, choices_at}

@@ -1,5 +1,5 @@
 use Rattle.std.proofs.Common.{◌++◌, map, ap, ◌∙◌}
-use Rattle.ss_logic_ground.specs.Opened.{replaced}
+use Rattle.ss_logic.specs.Opened.{replaced}
 use Rattle.ss_terms.specs.Forms.{terms_at, formula_at, formulas_at}
 use Rattle.ss_terms.proofs.Grown.{HasTerms-grown, terms_at-grown}
 use Rattle.ss_rules_opened.proofs.Fresh.{has_joined, are_joined}

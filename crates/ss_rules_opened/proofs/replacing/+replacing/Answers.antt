@@ -1,5 +1,5 @@
 use Rattle.std.proofs.Common.{map, ap, arith, ◌∙◌}
-use Rattle.ss_logic_ground.specs.Opened.{replaced}
+use Rattle.ss_logic.specs.Opened.{replaced}
 use Rattle.ss_terms.specs.Forms.{formula_at, formulas_at}
 use Rattle.ss_terms.proofs.Grown.{IsGrown-then, HasFormula-grown, HasFormulas-grown}
 use Rattle.ss_terms_puts.proofs.Putting.{AreBelow-get, AreBelow-push, formulas_more, formula_equal}

@@ -1,5 +1,5 @@
 use Rattle.std.proofs.Common.{◌≡◌, ◌+◌, ◌*◌, take, map}
-use Rattle.ss_logic_ground.specs.Opened.{replaced}
+use Rattle.ss_logic.specs.Opened.{replaced}
 use Rattle.ss_terms.specs.Forms.{formula_at, formulas_at, HasFormulas, IsGrown}
 use Rattle.ss_rules_opened.proofs.replacing.+replacing.Given as goal
 

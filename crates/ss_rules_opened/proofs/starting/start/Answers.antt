@@ -1,6 +1,6 @@
 use Rattle.std.proofs.Common.{sym, ap, subst, ◌∙◌}
 use Rattle.ss_core.specs.View as view
-use Rattle.ss_logic_ground.specs.Occurring.{all_terms}
+use Rattle.ss_logic.specs.Occurring.{all_terms}
 use Rattle.ss_terms.specs.Forms.{formula_at, formulas_at}
 use Rattle.ss_rules_opened.specs.Choices.{choices_at, HasChoices}
 use Rattle.ss_rules_opened.proofs.Choosing.{all_started}

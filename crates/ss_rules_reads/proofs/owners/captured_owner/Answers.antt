@@ -1,8 +1,8 @@
 use Rattle.std.proofs.Common.{◌≡◌, ◌∙◌, ap, subst, map, [], ◌∷◌}
 use Rattle.std.specs.Prelude.{IfOk}
-use Rattle.ss_logic_rules.specs.Shapes.{all_of, owner_of, null_term, class_term, pair_of}
+use Rattle.ss_logic.specs.Shapes.{all_of, owner_of, null_term, class_term, pair_of}
 use Rattle.ss_terms.specs.Forms.{term_at, formula_at, HasFormula}
-use Rattle.ss_rules_plans.specs.Plans.{slot_value, clause_at}
+use Rattle.ss_rules_basic.specs.Plans.{slot_value, clause_at}
 use Rattle.ss_rules_reads.proofs.Captures.{captures_said}
 use Rattle.ss_rules_reads.proofs.owners.captured_owner.Goals as goal
 

@@ -5,7 +5,7 @@ use Rattle.ss_logic.specs.Terms.{App, terms_from}
 use Rattle.ss_terms.specs.Forms.{HasTerms, symbol_of, term_at, terms_at}
 use Rattle.ss_terms.proofs.Trees.{AreTermsBelow-more}
 use Rattle.ss_rules_basic.specs.Arguments.{IsInstance}
-use Rattle.ss_rules_looks.specs.Looks.{look_in}
+use Rattle.ss_rules_basic.specs.Looks.{look_in}
 use Rattle.ss_rules_reads.proofs.Instances.{over_app, over_unread, over_unsorted}
 use Rattle.ss_rules_reads.proofs.read.over_store.Goals as goal
 

@@ -1,6 +1,6 @@
 use Rattle.std.proofs.Common.{refl, subst}
 use Rattle.ss_core.specs.View.{classes}
-use Rattle.ss_logic_derivations.specs.Steps.{Derives}
+use Rattle.ss_logic_means.specs.Steps.{Derives}
 use Rattle.ss_logic_countermodels.specs.Refuting.{IsCountermodel}
 use Rattle.ss_terms.specs.Forms.{formula_at, formulas_at}
 use Rattle.ss_deriv.specs.Lines.{lines_of}

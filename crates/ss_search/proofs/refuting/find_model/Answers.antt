@@ -1,7 +1,7 @@
 use Rattle.ss_core.specs.View.{classes}
 use Rattle.ss_terms.proofs.Grown.{HasFormulas-grown, formulas_at-grown, IsGrown-then}
 use Rattle.ss_terms.specs.Forms.{formula_at, formulas_at}
-use Rattle.ss_search_procedure.proofs.Beginning.{ground_grown}
+use Rattle.ss_search_procedure.proofs.GroundBegun.{ground_grown}
 use Rattle.ss_search.proofs.refuting.find_model.Goals as goal
 
 pub candidate_model-requires : goal.candidate_model-requires

@@ -4,7 +4,7 @@ use Rattle.ss_terms.proofs.Grown.{HasFormulas-grown, formulas_at-grown, IsGrown-
 use Rattle.ss_terms.specs.Forms.{formula_at, formulas_at}
 use Rattle.ss_logic_countermodels.specs.Refuting.{IsCountermodel}
 use Rattle.ss_search_procedure_rules.specs.Closed.{AreEnough}
-use Rattle.ss_search.specs.Found.{IsRefutedBy, IsShort}
+use Rattle.ss_search_answers.specs.Found.{IsRefutedBy, IsShort}
 use Rattle.ss_search.proofs.Carried.{countered_with, spent_with}
 use Rattle.ss_search.proofs.refuting.refute.Goals as goal
 

@@ -1,6 +1,6 @@
 use Rattle.std.proofs.Common.{◌≡◌, ◌+◌, true, None, arith, rules}
 use Rattle.std.proofs.lemmas.Grind.{common_steps}
-use Rattle.ss_logic_derivations.specs.Steps.{is_value}
+use Rattle.ss_logic_means.specs.Steps.{is_value}
 use Rattle.ss_terms.specs.Forms.{term_at}
 use Rattle.ss_equality_rules.specs.Equal.{class_number}
 use Rattle.ss_search_clashes.specs.Values.{IsEntered, AreEntered}

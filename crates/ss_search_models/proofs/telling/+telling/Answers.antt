@@ -1,6 +1,6 @@
 use Rattle.std.proofs.Common.{arith, ap, ◌∙◌}
 use Rattle.std.specs.Prelude.{flat_map}
-use Rattle.ss_logic_ground.specs.Occurring.{with_formulas}
+use Rattle.ss_logic.specs.Occurring.{with_formulas}
 use Rattle.ss_logic_countermodels.specs.Refuting.{told_in}
 use Rattle.ss_terms.specs.Forms.{formulas_at}
 use Rattle.ss_terms.proofs.Tested.{AreBelow-get}

@@ -3,20 +3,20 @@ use Rattle.std.specs.Prelude.{IfOk}
 use Rattle.std.proofs.lemmas.Result.{IfOk-weaker}
 use Rattle.ss_core.specs.View as view
 use Rattle.ss_logic.specs.Formulas.{Formula}
-use Rattle.ss_logic_derivations.specs.Steps.{Derives}
+use Rattle.ss_logic_means.specs.Steps.{Derives}
 use Rattle.ss_logic_countermodels.specs.Refuting.{IsCountermodel, told}
-use Rattle.ss_logic_origins.specs.Origins.{chosen_by}
+use Rattle.ss_logic_means.specs.Origins.{chosen_by}
 use Rattle.ss_terms.specs.Forms.{formula_at, formulas_at}
 use Rattle.ss_terms.proofs.Grown.{IsBankOf-grown, HasFormula-grown, HasFormulas-grown, formulas_at-grown}
 use Rattle.ss_deriv.specs.Lines.{lines_of}
 use Rattle.ss_rules_opened.specs.declared.opening.Choice.{Choice}
 use Rattle.ss_rules_opened.specs.Choices.{choices_at, HasChoices}
 use Rattle.ss_search_procedure_rules.specs.Closed.{AreEnough}
-use Rattle.ss_search_standing.specs.Standing.{body_of}
+use Rattle.ss_search_path.specs.Standing.{body_of}
 use Rattle.ss_search_procedure.specs.declared.settling.Settled.{Settled}
 use Rattle.ss_search_procedure.specs.declared.settling.Settled.TheVariants as settled
 use Rattle.ss_search_procedure.specs.Answers.{IfClosed, IfCountered}
-use Rattle.ss_search_procedure.proofs.Beginning.{ground_later, closed_before}
+use Rattle.ss_search_procedure.proofs.GroundBegun.{ground_later, closed_before}
 use Rattle.ss_search_procedure.proofs.starting.settle_by.Goals as goal
 
 pub chosen_formulas-requires-clause-choices : goal.chosen_formulas-requires-clause-choices

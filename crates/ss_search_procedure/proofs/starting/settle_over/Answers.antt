@@ -2,16 +2,16 @@ use Rattle.std.proofs.Common.{◌≡◌, List, map, sym, ◌∙◌, ap, subst}
 use Rattle.std.specs.Prelude.{IfOk}
 use Rattle.ss_logic.specs.Formulas.{Formula}
 use Rattle.ss_logic_countermodels.specs.Refuting.{IsCountermodel}
-use Rattle.ss_logic_origins.specs.Origins.{chosen_by}
+use Rattle.ss_logic_means.specs.Origins.{chosen_by}
 use Rattle.ss_terms.specs.Forms.{formula_at, formulas_at}
 use Rattle.ss_rules_opened.specs.declared.opening.Choice.{Choice}
 use Rattle.ss_rules_opened.specs.Choices.{choices_at}
 use Rattle.ss_search_procedure_rules.specs.Closed.{AreEnough}
-use Rattle.ss_search_standing.specs.Standing.{body_of}
+use Rattle.ss_search_path.specs.Standing.{body_of}
 use Rattle.ss_search_procedure.specs.declared.settling.Settled.{Settled}
 use Rattle.ss_search_procedure.specs.declared.settling.Settled.TheVariants as settled
 use Rattle.ss_search_procedure.specs.Answers.{IfCountered}
-use Rattle.ss_search_procedure.proofs.Beginning.{is_setting, is_given, ground_here}
+use Rattle.ss_search_procedure.proofs.GroundBegun.{is_setting, is_given, ground_here}
 use Rattle.ss_search_procedure.proofs.starting.settle_over.Goals as goal
 
 pub settle-requires-clause-setting : goal.settle-requires-clause-setting

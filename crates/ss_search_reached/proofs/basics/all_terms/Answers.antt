@@ -1,6 +1,6 @@
 use Rattle.std.proofs.Common.{◌∙◌, ap, sym, subst, []}
 use Rattle.std.specs.Prelude.{IfOk}
-use Rattle.ss_logic_ground.specs.Occurring.{with_terms_of_all}
+use Rattle.ss_logic.specs.Occurring.{with_terms_of_all}
 use Rattle.ss_terms.specs.Forms.{formulas_at, HasFormulas}
 use Rattle.ss_rules_occurring.specs.Found.{HoldsTerms}
 use Rattle.ss_search_reached.proofs.basics.all_terms.Goals as goal

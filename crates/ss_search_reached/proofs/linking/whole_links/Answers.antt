@@ -1,6 +1,6 @@
 use Rattle.std.proofs.Common.{◌∙◌, ap, sym, subst}
 use Rattle.std.proofs.lemmas.Result.{IfOk-weaker}
-use Rattle.ss_logic_ground.specs.Occurring.{terms}
+use Rattle.ss_logic.specs.Occurring.{terms}
 use Rattle.ss_terms.specs.Forms.{terms_at, formulas_at, HasTerms}
 use Rattle.ss_linear.specs.Contradictions.{HasPairs}
 use Rattle.ss_search_reached.specs.Groups.{AreOfOneClass, AreChained, AreWholeLinks}

@@ -1,6 +1,6 @@
 use Rattle.std.proofs.Common.{◌≡◌, true, sym, subst}
 use Rattle.std.proofs.lemmas.Result.{IfOk-weaker}
-use Rattle.ss_logic_ground.specs.Occurring.{terms}
+use Rattle.ss_logic.specs.Occurring.{terms}
 use Rattle.ss_terms.specs.Forms.{formulas_at}
 use Rattle.ss_linear.specs.Contradictions.{HasPairs, equalities_at, Pairs}
 use Rattle.ss_linear.specs.Met.{AreMet}

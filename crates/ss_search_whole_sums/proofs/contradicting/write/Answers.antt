@@ -5,7 +5,7 @@ use Rattle.ss_logic.specs.Terms.{is_well_sorted}
 use Rattle.ss_logic.specs.Formulas.{Formula}
 use Rattle.ss_terms.specs.Forms.{term_at}
 use Rattle.ss_linear.specs.Contradictions.{equality_at}
-use Rattle.ss_search_equating.specs.Said.{MakeKnown}
+use Rattle.ss_search_clashes.specs.Said.{MakeKnown}
 use Rattle.ss_search_whole_sums.proofs.contradicting.write.Goals as goal
 
 pub returns : goal.returns

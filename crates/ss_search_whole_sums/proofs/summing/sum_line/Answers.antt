@@ -1,7 +1,7 @@
 use Rattle.std.proofs.Common.{◌∙◌, ℤ, ap, map, rules, SFits}
 use Rattle.std.specs.Int.{w64}
 use Rattle.std.proofs.lemmas.Int.{to_z-of_z}
-use Rattle.ss_logic_derivations.specs.Steps.{Sum}
+use Rattle.ss_logic_means.specs.Steps.{Sum}
 use Rattle.ss_search_whole_sums.specs.Summing.{moved_part}
 use Rattle.ss_search_whole_sums.proofs.summing.sum_line.Goals as goal
 

@@ -2,7 +2,7 @@ use Rattle.std.proofs.Common.{ℕ, List, sym, subst}
 use Rattle.std.specs.Prelude.{IfOk, IfSome}
 use Rattle.std.proofs.lemmas.Option.{IfSome_then}
 use Rattle.std.proofs.lemmas.Result.{IfOk-weaker}
-use Rattle.ss_logic_ground.specs.Occurring.{terms}
+use Rattle.ss_logic.specs.Occurring.{terms}
 use Rattle.ss_linear.specs.Contradictions.{HasPairs, Pairs}
 use Rattle.ss_terms.specs.declared.forms.FormulaId.{FormulaId}
 use Rattle.ss_terms.specs.Forms.{formulas_at, HasFormulas}

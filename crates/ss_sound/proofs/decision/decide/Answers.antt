@@ -1,5 +1,5 @@
 use Rattle.std.proofs.Common.{◌*◌, length, take}
-use Rattle.ss_sound.proofs.Lists.{AreBelow-take, AreBelow-drop}
+use Rattle.ss_vcgen_builder.proofs.Within.{AreBelow-take, AreBelow-drop}
 use Rattle.ss_sound.proofs.decision.decide.Goals as goal
 
 pub decide_lent-requires-clause-premises : goal.decide_lent-requires-clause-premises

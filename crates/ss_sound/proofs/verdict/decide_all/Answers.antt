@@ -1,7 +1,8 @@
 use Rattle.std.proofs.Common.{length}
 use Rattle.ss_core.specs.View.{classes}
 use Rattle.ss_terms.proofs.Grown.{HasFormulas-grown, IsGrown-then}
-use Rattle.ss_sound.proofs.Lists.{within_later, formed_later, decided_before, derived_before}
+use Rattle.ss_vcgen_builder.proofs.Within.{within_later}
+use Rattle.ss_sound.proofs.Lists.{formed_later, decided_before, derived_before}
 use Rattle.ss_sound.proofs.verdict.decide_all.Goals as goal
 
 pub returns-clause-decided : goal.returns-clause-decided

@@ -1,8 +1,8 @@
 use Rattle.std.proofs.Common.{length, sym, subst}
 use Rattle.ss_core.specs.View.{core}
-use Rattle.ss_vcgen.specs.Built.{trees}
-use Rattle.ss_vcgen_formed.specs.Formed.{AreFormed}
-use Rattle.ss_vcgen_formed.proofs.Programs.{all_formed}
+use Rattle.ss_vcgen_builder.specs.Built.{trees}
+use Rattle.ss_vcgen_safe.specs.Formed.{AreFormed}
+use Rattle.ss_vcgen_safe.proofs.FormedPrograms.{all_formed}
 use Rattle.ss_sound.specs.Verdicts.{AllHaveNoModelWithin, derivations_of}
 use Rattle.ss_sound.proofs.Complete.{verdict_complete}
 use Rattle.ss_sound.proofs.Lists.{obligations_grown}

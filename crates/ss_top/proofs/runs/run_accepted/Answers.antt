@@ -1,8 +1,8 @@
 use Rattle.ss_core.specs.View as core
 use Rattle.ss_ast.specs.Tokens.{toks}
 use Rattle.ss_typed.specs.View.{typed}
-use Rattle.ss_top.proofs.Limits.{elaborated_limits}
-use Rattle.ss_top.proofs.Says.{means}
+use Rattle.ss_top_sources.proofs.CoreLimits.{elaborated_limits}
+use Rattle.ss_top_sources.proofs.Means.{means}
 use Rattle.ss_top.proofs.runs.run_accepted.Goals as goal
 
 pub run_whole-requires-clause-limits : goal.run_whole-requires-clause-limits

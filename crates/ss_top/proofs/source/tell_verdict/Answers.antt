@@ -2,7 +2,7 @@ use Rattle.std.proofs.Common.{Err, subst, sym, ◌∙◌}
 use Rattle.ss_io.specs.declared.outside.WriteStop.{WriteStop}
 use Rattle.ss_io.specs.Outside.{Grew, GrewByFront, Takes}
 use Rattle.ss_core.specs.View.{core}
-use Rattle.ss_vcgen.specs.Built.{trees}
+use Rattle.ss_vcgen_builder.specs.Built.{trees}
 use Rattle.ss_report.specs.declared.status.Status.{Status}
 use Rattle.ss_top.specs.Answers.{Says, command_of_goal}
 use Rattle.ss_top.proofs.Says.{told_in_part, verdict_in_part, countered_rise, undecided_rise, answer_says, answer_no_fault}

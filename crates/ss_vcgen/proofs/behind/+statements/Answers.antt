@@ -21,7 +21,7 @@ use Rattle.ss_vcgen_heaps.specs.Obligations as spec
 use Rattle.ss_vcgen_heaps.specs.Obligations.{behind, behind_all, with_known}
 use Rattle.ss_vcgen_builder.specs.Builder.{at_spot, guard_of, position_at, walk_at}
 use Rattle.ss_vcgen_builder.proofs.Builds.{HasSpot-grown, IsSpot-grown, IsWalk-grown, join_spot, on_ok}
-use Rattle.ss_vcgen_evaluated.proofs.Evaluated.{drop_next}
+use Rattle.ss_vcgen_statements.proofs.Evaluated.{drop_next}
 use Rattle.ss_vcgen_known.proofs.Assigning.{if_is}
 use Rattle.ss_vcgen_statements.proofs.Going.{here, none_gone, gone_on, all_gone, never_gone}
 use Rattle.ss_vcgen_statements.proofs.Steps.{Along, then, so, stays}

@@ -7,7 +7,7 @@ use Rattle.ss_terms.specs.Forms.{Forms}
 use Rattle.ss_vcgen_heaps.specs.Positions.{Position}
 use Rattle.ss_vcgen_builder.specs.Builder.{position_at}
 use Rattle.ss_vcgen_builder.proofs.Builds.{going_start, going_on, going_end}
-use Rattle.ss_vcgen_evaluated.proofs.Evaluated.{drop_next}
+use Rattle.ss_vcgen_statements.proofs.Evaluated.{drop_next}
 use Rattle.ss_vcgen.proofs.bodies.enter_each.Goals as goal
 
 pub loop-local-init : goal.loop-local-init

@@ -1,7 +1,7 @@
 use Rattle.std.proofs.Common.{ap, ◌∙◌}
 use Rattle.ss_core.specs.View.{expr}
 use Rattle.ss_logic.specs.declared.Sort.{Sort}
-use Rattle.ss_logic_express.specs.Express.{Meant}
+use Rattle.ss_logic.specs.Express.{Meant}
 use Rattle.ss_terms.specs.Forms.{Forms}
 use Rattle.ss_terms.proofs.Grown.{IsGrown-then}
 use Rattle.ss_vcgen_heaps.specs.Positions.{define, evaluate, meant_at, new_term, set_local}

@@ -5,8 +5,8 @@ use Rattle.ss_terms.proofs.Grown.{IsGrown-then}
 use Rattle.ss_vcgen_heaps.specs.Positions.{Position, evaluate, meant_at}
 use Rattle.ss_vcgen_builder.specs.Builder.{position_at, walk_at}
 use Rattle.ss_vcgen_builder.proofs.Builds.{IsWalk-grown}
-use Rattle.ss_vcgen_evaluated.proofs.Evaluated.{IsMeant-grown}
-use Rattle.ss_vcgen_statements.proofs.Contexts.{evaluate_alike, meant_alike}
+use Rattle.ss_vcgen_statements.proofs.Evaluated.{IsMeant-grown}
+use Rattle.ss_vcgen_statements.proofs.InContexts.{evaluate_alike, meant_alike}
 use Rattle.ss_vcgen_statements.proofs.Steps.{then}
 use Rattle.ss_vcgen.proofs.changes.evaluate_two.Goals as goal
 

@@ -3,7 +3,7 @@ use Rattle.ss_core.specs.View.{expr}
 use Rattle.ss_logic.specs.declared.Sort.{Sort}
 use Rattle.ss_logic.specs.declared.Sort.TheVariants as sort
 use Rattle.ss_logic.specs.Terms.{Term}
-use Rattle.ss_logic_express.specs.Express.{Meant}
+use Rattle.ss_logic.specs.Express.{Meant}
 use Rattle.ss_terms.specs.Forms.{Forms, term_at}
 use Rattle.ss_terms.proofs.Grown.{IsGrown-then, HasTerm-grown}
 use Rattle.ss_vcgen_heaps.specs.Positions.{Position, evaluate, evaluate_all, meant_at, term_for, with_term}
@@ -12,7 +12,7 @@ use Rattle.ss_vcgen_express.specs.Numbers.{meant_at as value_at}
 use Rattle.ss_vcgen_express.proofs.Grown.{HasMeant-grown}
 use Rattle.ss_vcgen_builder.specs.Builder.{position_at, walk_at}
 use Rattle.ss_vcgen_builder.proofs.Builds.{IsWalk-grown}
-use Rattle.ss_vcgen_statements.proofs.Contexts.{all_alike, meant_alike}
+use Rattle.ss_vcgen_statements.proofs.InContexts.{all_alike, meant_alike}
 use Rattle.ss_vcgen_statements.proofs.Steps.{then, so}
 use Rattle.ss_vcgen.specs.Behind.{with_two, element_written}
 use Rattle.ss_vcgen.proofs.changes.write_at.Goals as goal

@@ -5,9 +5,9 @@ use Rattle.ss_core.specs.View as view
 use Rattle.ss_terms.specs.Forms.{Forms, IsBankOf}
 use Rattle.ss_vcgen_heaps.specs.Obligations.{at_end, walk_of}
 use Rattle.ss_vcgen_builder.specs.Builder.{counters_of}
-use Rattle.ss_vcgen_evaluated.proofs.Evaluated.{drop_next}
-use Rattle.ss_vcgen.specs.declared.list.Obligations.{Obligations}
-use Rattle.ss_vcgen.specs.Built.{trees, IsWithin}
+use Rattle.ss_vcgen_statements.proofs.Evaluated.{drop_next}
+use Rattle.ss_vcgen_builder.specs.declared.list.Obligations.{Obligations}
+use Rattle.ss_vcgen_builder.specs.Built.{trees, IsWithin}
 use Rattle.ss_vcgen.proofs.Building.{Built, begins_so, none_built, built_on, all_built}
 use Rattle.ss_vcgen.proofs.programs.watched.Goals as goal
 

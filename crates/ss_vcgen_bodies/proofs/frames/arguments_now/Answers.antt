@@ -1,7 +1,7 @@
 use Rattle.std.proofs.Common.{ℕ, List, length, map, take, ap, sym, ◌∙◌}
 use Rattle.std.proofs.lemmas.List.{take-map}
 use Rattle.ss_core.specs.View.{body}
-use Rattle.ss_logic_express.specs.Express.{Context}
+use Rattle.ss_logic.specs.Express.{Context}
 use Rattle.ss_store_rules.specs.Locals.{argument_count}
 use Rattle.ss_terms.specs.declared.forms.TermId.{TermId}
 use Rattle.ss_vcgen_heaps.specs.Positions.{meant_of}

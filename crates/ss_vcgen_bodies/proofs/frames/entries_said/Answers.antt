@@ -1,7 +1,7 @@
 use Rattle.std.proofs.Common.{List, ap, ◌∙◌}
 use Rattle.ss_core.specs.View.{classes, body}
 use Rattle.ss_logic.specs.Terms.{Term}
-use Rattle.ss_logic_express.specs.Express.{Meant}
+use Rattle.ss_logic.specs.Express.{Meant}
 use Rattle.ss_terms.specs.declared.forms.TermId.{TermId}
 use Rattle.ss_terms.specs.Forms.{term_at}
 use Rattle.ss_terms.proofs.Grown.{IsGrown-then}

@@ -1,6 +1,6 @@
 use Rattle.std.proofs.Common.{List, ap, sym, subst, ◌∙◌}
 use Rattle.ss_core.specs.View.{classes, body}
-use Rattle.ss_logic_express.specs.Express.{Meant}
+use Rattle.ss_logic.specs.Express.{Meant}
 use Rattle.ss_terms.specs.declared.forms.TermId.{TermId}
 use Rattle.ss_terms.specs.Forms.{Forms, term_at, HasTerms}
 use Rattle.ss_terms.proofs.Grown.{IsGrown-then, HasTerm-grown, HasTerms-grown}

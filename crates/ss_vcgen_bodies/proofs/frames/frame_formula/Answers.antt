@@ -1,8 +1,8 @@
 use Rattle.std.proofs.Common.{List, [], ap, ◌∙◌}
 use Rattle.ss_core.specs.View.{classes, body}
 use Rattle.ss_logic.specs.Terms.{Term}
-use Rattle.ss_logic_frames.specs.Frames.{kept}
-use Rattle.ss_logic_express.specs.Express.{Meant}
+use Rattle.ss_logic.specs.Frames.{kept}
+use Rattle.ss_logic.specs.Express.{Meant}
 use Rattle.ss_terms.specs.declared.forms.TermId.{TermId}
 use Rattle.ss_terms.specs.Forms.{Forms, term_at, terms_at}
 use Rattle.ss_terms.proofs.Grown.{IsGrown-then, HasTerm-grown, HasTerms-grown}

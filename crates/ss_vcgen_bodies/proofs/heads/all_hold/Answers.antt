@@ -5,7 +5,7 @@ use Rattle.ss_core.specs.View.{expr, exprs}
 use Rattle.ss_vcgen_heaps.specs.Positions as position
 use Rattle.ss_vcgen_builder.specs.Builder.{position_at, walk_at}
 use Rattle.ss_vcgen_builder.proofs.Builds.{IsWalk-grown}
-use Rattle.ss_vcgen_evaluated.proofs.Evaluated.{drop_next}
+use Rattle.ss_vcgen_statements.proofs.Evaluated.{drop_next}
 use Rattle.ss_vcgen_bodies.proofs.Making.{no_formula_made, formula_on, formulas_made, formula_before}
 use Rattle.ss_vcgen_bodies.proofs.heads.all_hold.Goals as goal
 

@@ -1,7 +1,7 @@
 use Rattle.std.proofs.Common.{[], ◌∷◌, map}
 use Rattle.ss_core.specs.View.{exposed_tree}
-use Rattle.ss_logic_express.specs.Express.{and_of}
-use Rattle.ss_logic_frames.specs.Frames.{grown}
+use Rattle.ss_logic.specs.Express.{and_of}
+use Rattle.ss_logic.specs.Frames.{grown}
 use Rattle.ss_terms.specs.Forms.{Forms}
 use Rattle.ss_terms.proofs.Grown.{IsGrown-then, HasTerm-grown}
 use Rattle.ss_vcgen_heaps.specs.Positions.{Position, good}

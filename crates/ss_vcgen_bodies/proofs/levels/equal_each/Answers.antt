@@ -1,6 +1,6 @@
 use Rattle.std.proofs.Common.{◌+◌, List, map, length, drop, get_or, ap}
 use Rattle.std.proofs.lemmas.List.{drop_all, drop_more}
-use Rattle.ss_logic_rules.specs.Shapes.{equal}
+use Rattle.ss_logic.specs.Shapes.{equal}
 use Rattle.ss_terms.specs.declared.forms.TermId.{TermId}
 use Rattle.ss_terms.specs.Forms.{term_at, terms_at}
 use Rattle.ss_terms.proofs.Grown.{HasTerm-grown, HasTerms-grown}

@@ -1,5 +1,5 @@
 use Rattle.std.proofs.Common.{map, drop}
-use Rattle.ss_logic_rules.specs.Shapes.{equal}
+use Rattle.ss_logic.specs.Shapes.{equal}
 use Rattle.ss_terms.specs.Forms.{term_at, terms_at}
 use Rattle.ss_vcgen_bodies.proofs.Making.{FormulasMade}
 use Rattle.ss_vcgen_bodies.proofs.levels.equal_each.Given as goal

@@ -4,7 +4,7 @@ use Rattle.ss_terms.specs.Forms.{Forms}
 use Rattle.ss_vcgen_heaps.specs.Positions.{new_term, set_local, with_new}
 use Rattle.ss_vcgen_builder.specs.Builder.{position_at}
 use Rattle.ss_vcgen_statements.proofs.Steps.{so, then_term}
-use Rattle.ss_logic_express.specs.Express.{element_sort}
+use Rattle.ss_logic.specs.Express.{element_sort}
 use Rattle.ss_vcgen_bodies.proofs.renewal.renew_local.Goals as goal
 
 pub returns : goal.returns

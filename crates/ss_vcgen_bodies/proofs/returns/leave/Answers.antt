@@ -8,7 +8,7 @@ use Rattle.ss_vcgen_heaps.specs.Positions.{Position, check, check_all, ended}
 use Rattle.ss_vcgen_heaps.specs.Obligations.{frame_formula}
 use Rattle.ss_vcgen_builder.specs.Builder.{position_at, walk_at}
 use Rattle.ss_vcgen_builder.proofs.Builds.{IsWalk-grown}
-use Rattle.ss_vcgen_statements.proofs.Contexts.{checks_alike}
+use Rattle.ss_vcgen_statements.proofs.InContexts.{checks_alike}
 use Rattle.ss_vcgen_statements.proofs.Steps.{then, so, stays_then, then_formula, then_formulas, formula_later, formulas_later}
 use Rattle.ss_vcgen_bodies.specs.Words.{exits_said, left}
 use Rattle.ss_vcgen_bodies.proofs.Leaving.{frame_alike}

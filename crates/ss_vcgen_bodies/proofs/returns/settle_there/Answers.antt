@@ -1,14 +1,14 @@
 use Rattle.std.proofs.Common.{[], ◌∷◌, Some, ap, ◌∙◌, sym}
 use Rattle.ss_core.specs.View.{expr}
 use Rattle.ss_logic.specs.declared.Sort.{Sort}
-use Rattle.ss_logic_express.specs.Express.{Meant, One}
+use Rattle.ss_logic.specs.Express.{Meant, One}
 use Rattle.ss_terms.specs.Forms.{Forms}
 use Rattle.ss_terms.proofs.Grown.{IsGrown-then}
 use Rattle.ss_vcgen_contracts.specs.Views.{ones_at}
 use Rattle.ss_vcgen_heaps.specs.Positions.{Position, evaluate, meant_at, term_for, with_term}
 use Rattle.ss_vcgen_express.specs.Numbers.{meant_at as value_at}
 use Rattle.ss_vcgen_builder.specs.Builder.{position_at, walk_at}
-use Rattle.ss_vcgen_statements.proofs.Contexts.{evaluate_alike, meant_alike}
+use Rattle.ss_vcgen_statements.proofs.InContexts.{evaluate_alike, meant_alike}
 use Rattle.ss_vcgen_statements.proofs.Steps.{then, so}
 use Rattle.ss_vcgen_bodies.specs.Words.{reached_result}
 use Rattle.ss_vcgen_bodies.proofs.returns.settle_there.Goals as goal

@@ -1,7 +1,7 @@
 use Rattle.std.proofs.Common.{◌+◌, true, false, ap, ◌∙◌}
 use Rattle.ss_core.specs.View.{expr}
 use Rattle.ss_store_rules.specs.NonNull.{Known, known_tested}
-use Rattle.ss_logic_express.specs.Express.{said}
+use Rattle.ss_logic.specs.Express.{said}
 use Rattle.ss_terms.specs.Forms.{Forms}
 use Rattle.ss_terms.proofs.Grown.{IsGrown-then}
 use Rattle.ss_vcgen_heaps.specs.Positions.{Position, When, evaluate, meant_at, first_side}
@@ -9,7 +9,7 @@ use Rattle.ss_vcgen_heaps.specs.Obligations.{into_body}
 use Rattle.ss_vcgen_builder.specs.Builder.{position_at, walk_at}
 use Rattle.ss_vcgen_builder.proofs.Builds.{IsSpot-grown}
 use Rattle.ss_vcgen_statements.proofs.Steps.{then, so, then_formula}
-use Rattle.ss_vcgen_statements.proofs.Contexts.{evaluate_alike}
+use Rattle.ss_vcgen_statements.proofs.InContexts.{evaluate_alike}
 use Rattle.ss_vcgen_bodies.specs.Words.{other_side}
 use Rattle.ss_vcgen_bodies.proofs.Spots.{spot_so}
 use Rattle.ss_vcgen_bodies.proofs.sides.enter_side.Goals as goal

@@ -1,6 +1,6 @@
 use Rattle.std.proofs.Common.{[], ◌∷◌}
-use Rattle.ss_logic_rules.specs.Shapes.{null_term, equal, differ}
-use Rattle.ss_logic_express.specs.Express.{or_of}
+use Rattle.ss_logic.specs.Shapes.{null_term, equal, differ}
+use Rattle.ss_logic.specs.Express.{or_of}
 use Rattle.ss_terms.specs.Forms.{Forms, term_at}
 use Rattle.ss_vcgen_bodies.proofs.Making.{formula_alone, formulas_so}
 use Rattle.ss_vcgen_bodies.proofs.types.stays_alone.Goals as goal

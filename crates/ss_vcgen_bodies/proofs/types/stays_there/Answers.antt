@@ -1,6 +1,6 @@
 use Rattle.std.proofs.Common.{[], ◌∷◌}
-use Rattle.ss_logic_rules.specs.Shapes.{null_term, equal, differ}
-use Rattle.ss_logic_express.specs.Express.{or_of}
+use Rattle.ss_logic.specs.Shapes.{null_term, equal, differ}
+use Rattle.ss_logic.specs.Express.{or_of}
 use Rattle.ss_terms.specs.Forms.{Forms, term_at}
 use Rattle.ss_terms.proofs.Grown.{HasTerm-grown}
 use Rattle.ss_vcgen_statements.proofs.Steps.{stays_then, formula_later, formula_more, formula_of}

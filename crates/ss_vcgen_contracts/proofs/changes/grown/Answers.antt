@@ -1,5 +1,5 @@
 use Rattle.std.proofs.Common.{ap, ◌∙◌}
-use Rattle.ss_logic_frames.specs.Frames as logic
+use Rattle.ss_logic.specs.Frames as logic
 use Rattle.ss_terms.specs.Forms.{term_at}
 use Rattle.ss_vcgen_express.proofs.Grown.{is_formula}
 use Rattle.ss_vcgen_contracts.proofs.changes.grown.Goals as goal

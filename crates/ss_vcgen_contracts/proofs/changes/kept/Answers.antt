@@ -1,6 +1,6 @@
 use Rattle.std.proofs.Common.{ap}
 use Rattle.ss_core.specs.View as view
-use Rattle.ss_logic_frames.specs.Frames as logic
+use Rattle.ss_logic.specs.Frames as logic
 use Rattle.ss_frames.specs.Calls.{call_at}
 use Rattle.ss_frames.proofs.Growing.{call_at-grown}
 use Rattle.ss_vcgen_express.proofs.Grown.{is_formula}

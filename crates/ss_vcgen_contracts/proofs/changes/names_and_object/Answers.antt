@@ -1,6 +1,6 @@
 use Rattle.std.proofs.Common.{map, ap, ◌∙◌}
 use Rattle.ss_core.specs.View as view
-use Rattle.ss_logic_express.specs.Express.{local_meant}
+use Rattle.ss_logic.specs.Express.{local_meant}
 use Rattle.ss_terms.proofs.Grown.{IsGrown-then}
 use Rattle.ss_vcgen_express.specs.Contexts.{context_at}
 use Rattle.ss_vcgen_express.proofs.Contexts.{HasContext-grown}

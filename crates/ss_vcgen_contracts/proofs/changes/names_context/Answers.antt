@@ -1,6 +1,6 @@
 use Rattle.std.proofs.Common.{ap, ◌∙◌}
 use Rattle.ss_core.specs.View as view
-use Rattle.ss_logic_express.specs.Express.{at_entry}
+use Rattle.ss_logic.specs.Express.{at_entry}
 use Rattle.ss_terms.specs.Forms.{term_at}
 use Rattle.ss_terms.proofs.Grown.{IsGrown-then, HasTerms-grown}
 use Rattle.ss_vcgen_contracts.specs.Views.{ones_at}

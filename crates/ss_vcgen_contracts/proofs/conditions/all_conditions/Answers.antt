@@ -1,6 +1,6 @@
 use Rattle.std.proofs.Common.{subst}
 use Rattle.ss_core.specs.View.{expr}
-use Rattle.ss_logic_express.specs.Express.{holds_formula}
+use Rattle.ss_logic.specs.Express.{holds_formula}
 use Rattle.ss_terms.proofs.Grown.{IsGrown-then}
 use Rattle.ss_vcgen_express.specs.Numbers.{IsFormula}
 use Rattle.ss_vcgen_express.specs.Contexts.{context_at}

@@ -1,7 +1,7 @@
 use Rattle.std.proofs.Common.{[], ◌∷◌, refl, sym, ap, ◌∙◌}
 use Rattle.ss_core.specs.Tree.{ConsistentArgument}
 use Rattle.ss_core.specs.View as view
-use Rattle.ss_logic_express.specs.Express.{and_of, default_said, holds_formula}
+use Rattle.ss_logic.specs.Express.{and_of, default_said, holds_formula}
 use Rattle.ss_vcgen_express.specs.Contexts.{context_at}
 use Rattle.ss_vcgen_express.proofs.Grown.{formula_so}
 use Rattle.ss_vcgen_contracts.specs.Seen.{is_at_level, condition_of}

@@ -1,5 +1,5 @@
 use Rattle.ss_logic.specs.Terms.{sort_of_type}
-use Rattle.ss_logic_express.specs.Express.{default_of_sort}
+use Rattle.ss_logic.specs.Express.{default_of_sort}
 use Rattle.ss_vcgen_contracts.proofs.Listing.{ones_push}
 use Rattle.ss_vcgen_contracts.proofs.contexts.add_default.Goals as goal
 

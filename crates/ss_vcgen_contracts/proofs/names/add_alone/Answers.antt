@@ -1,4 +1,4 @@
-use Rattle.ss_logic_express.specs.Express.{and_of}
+use Rattle.ss_logic.specs.Express.{and_of}
 use Rattle.ss_terms.specs.Forms.{term_at, formulas_at}
 use Rattle.ss_vcgen_contracts.specs.Names.{named_by}
 use Rattle.ss_vcgen_contracts.proofs.Listing.{names_push}

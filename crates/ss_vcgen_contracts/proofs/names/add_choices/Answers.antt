@@ -1,6 +1,6 @@
 use Rattle.std.proofs.Common.{[], ◌∷◌, ◌++◌, map, subst}
 use Rattle.std.proofs.lemmas.List.{take_all}
-use Rattle.ss_logic_express.specs.Express.{and_of}
+use Rattle.ss_logic.specs.Express.{and_of}
 use Rattle.ss_terms.specs.Forms.{formulas_at}
 use Rattle.ss_terms.proofs.Grown.{IsGrown-then, HasFormulas-grown}
 use Rattle.ss_frames.specs.Calls.{named_at}

@@ -1,5 +1,5 @@
 use Rattle.std.proofs.Common.{[], ◌∷◌, ◌++◌, map, take}
-use Rattle.ss_logic_express.specs.Express.{and_of}
+use Rattle.ss_logic.specs.Express.{and_of}
 use Rattle.ss_terms.specs.Forms.{formulas_at, IsGrown}
 use Rattle.ss_frames.specs.Calls.{named_at}
 use Rattle.ss_vcgen_express.specs.Numbers.{choices_at}

@@ -1,6 +1,6 @@
 use Rattle.std.proofs.Common.{◌++◌, map, ap, ◌∙◌}
 use Rattle.ss_core.specs.View as view
-use Rattle.ss_logic_express.specs.Express.{meant}
+use Rattle.ss_logic.specs.Express.{meant}
 use Rattle.ss_machine_rules.specs.Frame.{subject_of}
 use Rattle.ss_terms.specs.Forms.{formulas_at}
 use Rattle.ss_terms.proofs.Grown.{IsGrown-then}

@@ -1,4 +1,4 @@
-use Rattle.ss_logic_express.specs.Express.{and_of}
+use Rattle.ss_logic.specs.Express.{and_of}
 use Rattle.ss_terms.specs.Forms.{formulas_at}
 use Rattle.ss_vcgen_contracts.proofs.Naming.{name_is}
 use Rattle.ss_vcgen_contracts.proofs.names.named_alone.Goals as goal

@@ -1,5 +1,5 @@
 use Rattle.std.proofs.Common.{[], ◌∷◌, ◌++◌}
-use Rattle.ss_logic_express.specs.Express.{and_of}
+use Rattle.ss_logic.specs.Express.{and_of}
 use Rattle.ss_terms.specs.Forms.{formula_at, formulas_at}
 use Rattle.ss_vcgen_contracts.proofs.Naming.{name_is}
 use Rattle.ss_vcgen_contracts.proofs.names.named_choice.Goals as goal

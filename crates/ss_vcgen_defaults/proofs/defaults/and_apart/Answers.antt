@@ -1,5 +1,5 @@
 use Rattle.std.proofs.Common.{[], ◌∷◌, ap}
-use Rattle.ss_logic_express.specs.Express as spec
+use Rattle.ss_logic.specs.Express as spec
 use Rattle.ss_logic.specs.Formulas.{Formula}
 use Rattle.ss_terms.specs.Forms.{term_at, formula_at}
 use Rattle.ss_terms.proofs.Grown.{IsGrown-then, HasFormula-grown}

@@ -1,7 +1,7 @@
 use Rattle.std.proofs.Common.{[], ◌∷◌, ap, ◌∙◌}
 use Rattle.ss_core.specs.View.{default_tree}
-use Rattle.ss_logic_express.specs.Express as spec
-use Rattle.ss_logic_rules.specs.Shapes.{null_term, equal}
+use Rattle.ss_logic.specs.Express as spec
+use Rattle.ss_logic.specs.Shapes.{null_term, equal}
 use Rattle.ss_logic.specs.Formulas.{Formula}
 use Rattle.ss_terms.specs.Forms.{term_at, formula_at}
 use Rattle.ss_terms.proofs.Grown.{IsGrown-then, HasTerm-grown}

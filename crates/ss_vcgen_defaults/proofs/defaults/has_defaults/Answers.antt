@@ -1,7 +1,7 @@
 use Rattle.std.proofs.Common.{map, ap, ◌∙◌}
 use Rattle.ss_core.specs.Chain.{all_fields}
 use Rattle.ss_core.specs.View.{classes}
-use Rattle.ss_logic_express.specs.Express as spec
+use Rattle.ss_logic.specs.Express as spec
 use Rattle.ss_terms.specs.Forms.{term_at, formulas_at}
 use Rattle.ss_terms.proofs.Grown.{IsGrown-then}
 use Rattle.ss_vcgen_defaults.specs.Defaults.{slot_of, at_default}

@@ -1,6 +1,6 @@
 use Rattle.std.proofs.Common.{[], ◌∷◌, ap, ◌∙◌, sym}
-use Rattle.ss_logic_express.specs.Express as spec
-use Rattle.ss_logic_rules.specs.Shapes.{group, owner_of}
+use Rattle.ss_logic.specs.Express as spec
+use Rattle.ss_logic.specs.Shapes.{group, owner_of}
 use Rattle.ss_logic.specs.Formulas.{Formula}
 use Rattle.ss_terms.specs.Forms.{Forms, term_at, formula_at}
 use Rattle.ss_terms.proofs.Grown.{IsGrown-then, HasTerm-grown, HasFormula-grown}

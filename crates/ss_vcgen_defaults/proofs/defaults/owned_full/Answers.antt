@@ -1,7 +1,7 @@
 use Rattle.std.proofs.Common.{[], ◌∷◌, ap, ◌∙◌}
 use Rattle.ss_core.specs.View.{classes}
-use Rattle.ss_logic_express.specs.Express as spec
-use Rattle.ss_logic_rules.specs.Shapes.{allocated}
+use Rattle.ss_logic.specs.Express as spec
+use Rattle.ss_logic.specs.Shapes.{allocated}
 use Rattle.ss_logic.specs.declared.Sort.TheVariants as sort
 use Rattle.ss_logic.specs.Terms.{Term}
 use Rattle.ss_logic.specs.Formulas.{Formula, Forall, neg}

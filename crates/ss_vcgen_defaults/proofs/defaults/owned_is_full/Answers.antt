@@ -1,6 +1,6 @@
 use Rattle.std.proofs.Common.{map, ap, ◌∙◌}
 use Rattle.ss_core.specs.View.{classes}
-use Rattle.ss_logic_express.specs.Express.{and_of}
+use Rattle.ss_logic.specs.Express.{and_of}
 use Rattle.ss_terms.specs.Forms.{term_at, formulas_at}
 use Rattle.ss_terms.proofs.Grown.{IsGrown-then}
 use Rattle.ss_vcgen_defaults.specs.Defaults.{number_of, full_if_owned, owned_is_full}

@@ -1,6 +1,6 @@
 use Rattle.std.proofs.Common.{[], ◌∷◌, ◌++◌, ap, ◌∙◌}
-use Rattle.ss_logic_express.specs.Express as spec
-use Rattle.ss_logic_rules.specs.Shapes.{null_term}
+use Rattle.ss_logic.specs.Express as spec
+use Rattle.ss_logic.specs.Shapes.{null_term}
 use Rattle.ss_logic.specs.Formulas.{neg}
 use Rattle.ss_terms.specs.Forms.{term_at, formula_at}
 use Rattle.ss_vcgen_express.proofs.Listing.{choices_two}

@@ -1,6 +1,6 @@
 use Rattle.std.proofs.Common.{take}
 use Rattle.std.specs.Prelude.{flat_map}
-use Rattle.ss_logic_express.specs.Express as spec
+use Rattle.ss_logic.specs.Express as spec
 use Rattle.ss_terms.specs.Forms.{IsGrown}
 use Rattle.ss_vcgen_express.specs.Numbers.{choices_at, AreChoices}
 use Rattle.ss_vcgen_express.proofs.classes.as_choices.Given as goal

@@ -3,7 +3,7 @@ use Rattle.std.specs.Prelude.{slice_get}
 use Rattle.std.proofs.lemmas.Option.{slice_get-get_or, slice_get_past}
 use Rattle.std.proofs.lemmas.Result.{IfOk-weaker}
 use Rattle.ss_logic.specs.Terms.{Null, app}
-use Rattle.ss_logic_express.specs.Express as spec
+use Rattle.ss_logic.specs.Express as spec
 use Rattle.ss_terms.specs.Forms.{term_at, HasTerm}
 use Rattle.ss_vcgen_express.specs.declared.meant.Meant.TheVariants as meant
 use Rattle.ss_vcgen_express.specs.Numbers.{IsMeant}

@@ -1,4 +1,4 @@
-use Rattle.ss_logic_express.specs.Express.{said}
+use Rattle.ss_logic.specs.Express.{said}
 use Rattle.ss_vcgen_express.specs.Numbers.{meant_at}
 use Rattle.ss_vcgen_express.proofs.Chaining.{any_more}
 use Rattle.ss_vcgen_express.proofs.Grown.{HasMeant-grown}

@@ -1,5 +1,5 @@
 use Rattle.std.proofs.Common.{List, [], ◌∷◌, ◌++◌, map, ap, sym, ◌∙◌}
-use Rattle.ss_logic_express.specs.Express.{and_of}
+use Rattle.ss_logic.specs.Express.{and_of}
 use Rattle.ss_logic.specs.declared.Sort.TheVariants as sort
 use Rattle.ss_logic.specs.Formulas.{Formula, Exists, neg}
 use Rattle.ss_terms.specs.Forms.{formula_at, formulas_at}

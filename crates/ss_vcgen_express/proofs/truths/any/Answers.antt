@@ -1,5 +1,5 @@
 use Rattle.std.proofs.Common.{ap}
-use Rattle.ss_logic_express.specs.Express.{or_of}
+use Rattle.ss_logic.specs.Express.{or_of}
 use Rattle.ss_terms.specs.Forms.{formulas_at}
 use Rattle.ss_terms.proofs.Grown.{formulas_at-grown}
 use Rattle.ss_vcgen_express.proofs.Grown.{is_formula}

@@ -1,5 +1,5 @@
 use Rattle.std.proofs.Common.{◌∷◌, [], take, map}
-use Rattle.ss_logic_express.specs.Express as spec
+use Rattle.ss_logic.specs.Express as spec
 use Rattle.ss_terms.specs.Forms.{term_at, IsGrown}
 use Rattle.ss_vcgen_express.specs.Numbers.{choices_at, AreFormulas}
 use Rattle.ss_vcgen_express.specs.Sayings.{said_so}

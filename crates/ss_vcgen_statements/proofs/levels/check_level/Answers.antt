@@ -4,7 +4,7 @@ use Rattle.ss_core.specs.declared.names.Kind.TheVariants as kind
 use Rattle.ss_vcgen_builder.specs.Builder.{position_at, walk_at}
 use Rattle.ss_vcgen_builder.proofs.Builds.{IsWalk-grown}
 use Rattle.ss_vcgen_statements.proofs.Steps.{then, so, then_formula, formula_later}
-use Rattle.ss_logic_rules.specs.Shapes.{class_term, level_of, equal}
+use Rattle.ss_logic.specs.Shapes.{class_term, level_of, equal}
 use Rattle.ss_vcgen_heaps.specs.Positions.{check, local_term}
 use Rattle.ss_vcgen_heaps.specs.Obligations.{check_local}
 use Rattle.ss_vcgen_statements.specs.Words.{checked_level}

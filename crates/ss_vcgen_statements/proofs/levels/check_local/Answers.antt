@@ -2,7 +2,7 @@ use Rattle.std.proofs.Common.{ap, ◌∙◌}
 use Rattle.std.specs.Prelude.{slice_get, ◌||◌}
 use Rattle.ss_core.specs.declared.names.Kind.TheVariants as kind
 use Rattle.ss_store_rules.specs.NonNull.{is_non_null_type}
-use Rattle.ss_logic_rules.specs.Shapes.{null_term, differ}
+use Rattle.ss_logic.specs.Shapes.{null_term, differ}
 use Rattle.ss_terms.specs.Forms.{Forms}
 use Rattle.ss_vcgen_heaps.specs.Positions.{check_unless, local_term}
 use Rattle.ss_vcgen_heaps.specs.Obligations.{check_local}

@@ -6,7 +6,7 @@ use Rattle.ss_vcgen_builder.specs.Builder.{position_at, walk_at}
 use Rattle.ss_vcgen_builder.proofs.Builds.{IsWalk-grown}
 use Rattle.ss_vcgen_statements.proofs.Steps.{then, then_formula, formula_later, formula_is}
 use Rattle.ss_logic.specs.Formulas.{neg}
-use Rattle.ss_logic_rules.specs.Shapes.{class_term, level_of, equal, committed}
+use Rattle.ss_logic.specs.Shapes.{class_term, level_of, equal, committed}
 use Rattle.ss_vcgen_heaps.specs.Positions.{check, local_term}
 use Rattle.ss_vcgen_heaps.specs.Obligations.{check_local}
 use Rattle.ss_vcgen_statements.proofs.levels.check_unpack.Goals as goal

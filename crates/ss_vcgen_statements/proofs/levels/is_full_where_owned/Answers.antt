@@ -4,8 +4,8 @@ use Rattle.ss_terms.proofs.Grown.{IsGrown-then}
 use Rattle.ss_vcgen_builder.specs.Builder.{position_at}
 use Rattle.ss_vcgen_statements.proofs.Steps.{then, formula_later, no_formulas, formula_more, formula_of}
 use Rattle.ss_logic.specs.Formulas.{neg}
-use Rattle.ss_logic_rules.specs.Shapes.{class_term, owner_of, pair_of, differ, allocated, committed}
-use Rattle.ss_logic_express.specs.Express.{and_of, or_of, is_full}
+use Rattle.ss_logic.specs.Shapes.{class_term, owner_of, pair_of, differ, allocated, committed}
+use Rattle.ss_logic.specs.Express.{and_of, or_of, is_full}
 use Rattle.ss_vcgen_statements.proofs.levels.is_full_where_owned.Goals as goal
 
 pub one_of-requires-clause-formulas : goal.one_of-requires-clause-formulas

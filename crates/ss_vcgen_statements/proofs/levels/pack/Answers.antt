@@ -8,7 +8,7 @@ use Rattle.ss_logic.specs.Terms.{Pack, app}
 use Rattle.ss_vcgen_heaps.specs.Positions.{local_term, with_store}
 use Rattle.ss_vcgen_heaps.specs.Obligations.{pack}
 use Rattle.ss_vcgen_statements.specs.Words.{checked_level, checked_invariants}
-use Rattle.ss_vcgen_statements.proofs.Contexts.{packed_at}
+use Rattle.ss_vcgen_statements.proofs.InContexts.{packed_at}
 use Rattle.ss_vcgen_statements.proofs.levels.pack.Goals as goal
 
 pub check_level-requires-clause-walk : goal.check_level-requires-clause-walk

@@ -6,7 +6,7 @@ use Rattle.ss_vcgen_builder.proofs.Builds.{IsWalk-grown}
 use Rattle.ss_vcgen_statements.proofs.Steps.{then, then_formula, formula_later}
 use Rattle.ss_core.specs.View.{expr}
 use Rattle.ss_logic.specs.Formulas.{neg}
-use Rattle.ss_logic_rules.specs.Shapes.{committed}
+use Rattle.ss_logic.specs.Shapes.{committed}
 use Rattle.ss_vcgen_heaps.specs.Positions.{check}
 use Rattle.ss_vcgen_heaps.specs.Obligations.{check_not_null, is_index}
 use Rattle.ss_vcgen_statements.proofs.writes.check_element.Goals as goal

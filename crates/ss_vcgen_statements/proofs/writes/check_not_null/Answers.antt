@@ -2,14 +2,14 @@ use Rattle.std.proofs.Common.{false, ap, ◌∙◌}
 use Rattle.ss_core.specs.declared.names.Kind.TheVariants as kind
 use Rattle.ss_core.specs.View.{classes, body, expr}
 use Rattle.ss_store_rules.specs.NonNull.{is_never_null}
-use Rattle.ss_logic_rules.specs.Shapes.{null_term, differ}
+use Rattle.ss_logic.specs.Shapes.{null_term, differ}
 use Rattle.ss_terms.specs.Forms.{Forms, term_at}
 use Rattle.ss_vcgen_heaps.specs.Positions.{check_unless, site}
 use Rattle.ss_vcgen_heaps.specs.Obligations.{check_not_null}
 use Rattle.ss_vcgen_known.specs.declared.tests.Tests.TheVariants as tests
 use Rattle.ss_vcgen_known.specs.Views.{known_of, tested}
 use Rattle.ss_vcgen_builder.specs.Builder.{position_at, walk_at}
-use Rattle.ss_vcgen_evaluated.proofs.Evaluated.{site_from, tested_nothing}
+use Rattle.ss_vcgen_statements.proofs.Evaluated.{site_from, tested_nothing}
 use Rattle.ss_vcgen_statements.proofs.Steps.{so, then_formula}
 use Rattle.ss_vcgen_statements.proofs.writes.check_not_null.Goals as goal
 

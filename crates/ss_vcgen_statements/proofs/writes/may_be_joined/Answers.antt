@@ -3,8 +3,8 @@ use Rattle.ss_terms.specs.Forms.{Forms, term_at}
 use Rattle.ss_terms.proofs.Grown.{IsGrown-then}
 use Rattle.ss_vcgen_builder.specs.Builder.{position_at}
 use Rattle.ss_vcgen_statements.proofs.Steps.{then, formula_later, no_formulas, formula_more, formula_of}
-use Rattle.ss_logic_rules.specs.Shapes.{null_term, owner_of, equal, committed, group}
-use Rattle.ss_logic_express.specs.Express.{and_of, or_of}
+use Rattle.ss_logic.specs.Shapes.{null_term, owner_of, equal, committed, group}
+use Rattle.ss_logic.specs.Express.{and_of, or_of}
 use Rattle.ss_logic.specs.Formulas.{neg}
 use Rattle.ss_vcgen_statements.proofs.writes.may_be_joined.Goals as goal
 

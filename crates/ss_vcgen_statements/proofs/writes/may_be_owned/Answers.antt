@@ -3,8 +3,8 @@ use Rattle.ss_terms.specs.Forms.{Forms, term_at}
 use Rattle.ss_terms.proofs.Grown.{IsGrown-then}
 use Rattle.ss_vcgen_builder.specs.Builder.{position_at}
 use Rattle.ss_vcgen_statements.proofs.Steps.{then, formula_later, no_formulas, formula_more, formula_of}
-use Rattle.ss_logic_rules.specs.Shapes.{null_term, class_term, owner_of, pair_of, equal, group}
-use Rattle.ss_logic_express.specs.Express.{or_of}
+use Rattle.ss_logic.specs.Shapes.{null_term, class_term, owner_of, pair_of, equal, group}
+use Rattle.ss_logic.specs.Express.{or_of}
 use Rattle.ss_vcgen_statements.proofs.writes.may_be_owned.Goals as goal
 
 pub one_of-requires-clause-formulas : goal.one_of-requires-clause-formulas

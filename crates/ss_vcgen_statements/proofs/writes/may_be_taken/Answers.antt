@@ -2,8 +2,8 @@ use Rattle.std.proofs.Common.{[], ◌∷◌}
 use Rattle.ss_terms.specs.Forms.{Forms, term_at}
 use Rattle.ss_vcgen_builder.specs.Builder.{position_at}
 use Rattle.ss_vcgen_statements.proofs.Steps.{then, formula_later, no_formulas, formula_more, formula_of}
-use Rattle.ss_logic_rules.specs.Shapes.{owner_of, committed, group}
-use Rattle.ss_logic_express.specs.Express.{and_of}
+use Rattle.ss_logic.specs.Shapes.{owner_of, committed, group}
+use Rattle.ss_logic.specs.Express.{and_of}
 use Rattle.ss_logic.specs.Formulas.{neg}
 use Rattle.ss_vcgen_statements.proofs.writes.may_be_taken.Goals as goal
 

@@ -1,5 +1,5 @@
 use Rattle.std.proofs.lemmas.Result.{on_ok_weaker}
-use Rattle.ss_logic_express.specs.Express.{over}
+use Rattle.ss_logic.specs.Express.{over}
 use Rattle.ss_terms.specs.Forms.{Forms, term_at}
 use Rattle.ss_vcgen_express.specs.Numbers.{meant_at}
 use Rattle.ss_vcgen_express.specs.Sayings.{said_so}

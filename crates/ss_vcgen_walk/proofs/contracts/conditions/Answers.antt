@@ -1,5 +1,5 @@
 use Rattle.ss_core.specs.Tree.{ExprTree}
-use Rattle.ss_logic_express.specs.Express as spec
+use Rattle.ss_logic.specs.Express as spec
 use Rattle.ss_terms.specs.Forms.{Forms}
 use Rattle.ss_terms.proofs.Grown.{IsGrown-then}
 use Rattle.ss_vcgen_express.specs.Contexts.{context_at}

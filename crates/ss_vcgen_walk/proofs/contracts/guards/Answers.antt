@@ -1,6 +1,6 @@
 use Rattle.std.proofs.Common.{ap, ◌∙◌}
 use Rattle.std.proofs.lemmas.List.{map_push}
-use Rattle.ss_logic_express.specs.Express as spec
+use Rattle.ss_logic.specs.Express as spec
 use Rattle.ss_terms.specs.Forms.{Forms, formula_at, formulas_at}
 use Rattle.ss_terms.proofs.Grown.{IsGrown-refl, HasFormulas-grown}
 use Rattle.ss_vcgen_express.specs.Numbers.{meant_at}

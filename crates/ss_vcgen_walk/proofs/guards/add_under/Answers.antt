@@ -1,6 +1,6 @@
 use Rattle.std.proofs.Common.{[], ◌∷◌}
 use Rattle.ss_logic.specs.Formulas.{Formula, neg}
-use Rattle.ss_logic_express.specs.Express.{or_of}
+use Rattle.ss_logic.specs.Express.{or_of}
 use Rattle.ss_terms.specs.Forms.{Forms, formula_at}
 use Rattle.ss_terms.proofs.Grown.{IsGrown-refl, IsGrown-then, HasFormula-grown}
 use Rattle.ss_vcgen_walk.proofs.Composing.{parts_next, parts_none}

@@ -1,6 +1,6 @@
 use Rattle.std.proofs.Common.{◌++◌, ap}
 use Rattle.std.proofs.lemmas.Result.{on_ok_weaker}
-use Rattle.ss_logic_express.specs.Express.{said}
+use Rattle.ss_logic.specs.Express.{said}
 use Rattle.ss_logic.specs.Formulas.{neg}
 use Rattle.ss_terms.specs.Forms.{Forms, formula_at}
 use Rattle.ss_terms.proofs.Grown.{IsGrown-then}

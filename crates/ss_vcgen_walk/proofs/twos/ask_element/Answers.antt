@@ -1,7 +1,7 @@
 use Rattle.std.proofs.Common.{List, ◌++◌, true}
 use Rattle.std.proofs.lemmas.Result.{on_ok_weaker}
 use Rattle.ss_core.specs.declared.names.Kind.TheVariants as kind
-use Rattle.ss_logic_express.specs.Express.{index_fits}
+use Rattle.ss_logic.specs.Express.{index_fits}
 use Rattle.ss_terms.specs.Forms.{Forms}
 use Rattle.ss_vcgen_express.specs.Marked.{Marked, marked_part}
 use Rattle.ss_vcgen_express.specs.Numbers.{meant_at}

@@ -2,7 +2,7 @@ use Rattle.std.proofs.Common.{true}
 use Rattle.std.proofs.lemmas.Result.{on_ok_weaker}
 use Rattle.ss_core.specs.declared.names.Kind.TheVariants as kind
 use Rattle.ss_logic.specs.Terms as term
-use Rattle.ss_logic_express.specs.Express.{not_zero}
+use Rattle.ss_logic.specs.Express.{not_zero}
 use Rattle.ss_terms.specs.Forms.{Forms}
 use Rattle.ss_vcgen_express.specs.Marked.{marked_part, marked_result}
 use Rattle.ss_vcgen_express.specs.Numbers.{meant_at}

@@ -11,7 +11,7 @@ use Rattle.ss_core.specs.View.{expr, classes, default_tree, owners_tree, word_tr
 use Rattle.ss_core.specs.Tree.{ExprTree}
 use Rattle.ss_store_rules.specs.NonNull.{Known}
 use Rattle.ss_store_rules.specs.Types.{type_of, is_bool, element_of}
-use Rattle.ss_logic_express.specs.Express as spec
+use Rattle.ss_logic.specs.Express as spec
 use Rattle.ss_terms.specs.declared.forms.FormulaId.{FormulaId}
 use Rattle.ss_terms.specs.Forms.{Forms}
 use Rattle.ss_terms.proofs.Grown.{IsGrown-then, HasFormulas-grown}
@@ -101,8 +101,8 @@ express-returns-in-Not-clause-expressed t c =
 pub express-returns-in-Cast-clause-expressed : goal.express-returns-in-Cast-clause-expressed
 express-returns-in-Cast-clause-expressed t c =
     let a = c.in-Cast in
-    reads_as c.cast.result c.cast.new.bank c.cast.new.parts.items c.args.parts.now.items c.args.context.now.nulls.now c.args.context.now.expression.now (CastExpr a.at a.to.0 a.mark (expr c.deref-in-Cast.result.now)) (expr c.args.e.now)
-    (cast_so c.args.e.now a.at a.to a.mark a.a c.deref-in-Cast.result.now a.is c.deref-in-Cast.ensures) c.cast.ensures.expressed
+    reads_as c.cast.result c.cast.new.bank c.cast.new.parts.items c.args.parts.now.items c.args.context.now.nulls.now c.args.context.now.expression.now (CastExpr a.at a.class.0 a.mark (expr c.deref-in-Cast.result.now)) (expr c.args.e.now)
+    (cast_so c.args.e.now a.at a.class a.mark a.a c.deref-in-Cast.result.now a.is c.deref-in-Cast.ensures) c.cast.ensures.expressed
 
 pub express-returns-in-Old-clause-expressed : goal.express-returns-in-Old-clause-expressed
 express-returns-in-Old-clause-expressed t c =
@@ -135,7 +135,7 @@ express-returns-in_ok-m-in-Implies-clause-expressed t c =
 pub cast-returns-clause-expressed : goal.cast-returns-clause-expressed
 cast-returns-clause-expressed t c =
     let a = c.args in
-    reads_cast a.context.now.nulls.now a.context.now.expression.now c.express.new.bank c.ask_cast.new.bank c.in_ok-m.m c.express.new.parts.items c.ask_cast.new.parts.items a.parts.now.items (expr a.e.now) a.target.at.now a.target.to.now.0 a.target.mark.now
+    reads_cast a.context.now.nulls.now a.context.now.expression.now c.express.new.bank c.ask_cast.new.bank c.in_ok-m.m c.express.new.parts.items c.ask_cast.new.parts.items a.parts.now.items (expr a.e.now) a.target.at.now a.target.class.now.0 a.target.mark.now
     c.ask_cast.ensures.grown c.in_ok-m.ensures.expressed c.in_ok-ask_cast.ensures.asked
 
 pub quantifier_of-returns-clause-expressed : goal.quantifier_of-returns-clause-expressed

@@ -1,5 +1,5 @@
 use Rattle.std.proofs.Common.{◌++◌, map}
-use Rattle.ss_logic_express.specs.Express as spec
+use Rattle.ss_logic.specs.Express as spec
 use Rattle.ss_terms.specs.Forms.{Forms, formulas_at}
 use Rattle.ss_terms.proofs.Grown.{HasFormulas-grown}
 use Rattle.ss_vcgen_express.specs.Marked.{with_marked}

@@ -1,7 +1,7 @@
 use Rattle.std.proofs.Common.{◌≡◌, ◌∙◌, sym, ap, subst, ℕ, ◌+◌, ◌<◌, ◌^◌, List, length, Some, arith}
 use Rattle.std.specs.Prelude.{ℤ, pos}
 use Rattle.ss_logic.specs.Formulas.{Formula}
-use Rattle.ss_logic_sums.specs.Sums.{sum_of}
+use Rattle.ss_logic.specs.Sums.{sum_of}
 use Rattle.ss_terms.specs.Forms.{terms_at}
 use Rattle.ss_linear_paths.specs.declared.edges.Edge.{Edge}
 use Rattle.ss_linear_paths.specs.declared.edges.Found.{Found}

@@ -1,6 +1,6 @@
 use Rattle.std.proofs.Common.{◌≡◌, List, Some, reverse}
 use Rattle.std.proofs.lemmas.Result.{IfOk-weaker}
-use Rattle.ss_logic_derivations.specs.Steps.{Derives}
+use Rattle.ss_logic_means.specs.Steps.{Derives}
 use Rattle.ss_deriv.specs.declared.line.Line.{Line}
 use Rattle.ss_deriv.specs.Lines.{lines_of}
 use Rattle.ss_search_path.proofs.Shaping.{derives_shaped, path_derives}

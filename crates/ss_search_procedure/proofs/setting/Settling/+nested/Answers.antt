@@ -9,7 +9,7 @@ use Rattle.ss_terms.specs.declared.forms.FormulaId.{FormulaId}
 use Rattle.ss_terms.specs.Forms.{formula_at}
 use Rattle.ss_terms.proofs.Tested.{AreBelow-get}
 use Rattle.ss_deriv.specs.Lines.{lines_of}
-use Rattle.ss_search_closing.specs.Closing.{Closes}
+use Rattle.ss_search_clashes.specs.Closing.{Closes}
 use Rattle.ss_search_reaching.specs.Reaching.{facts_of, Shows}
 use Rattle.ss_search_procedure_rules.specs.Closed.{StaysOpen}
 use Rattle.ss_search_procedure.specs.Decisions.{bank_of, reached_in, IsUnknown, IsOpenDecision, IsTried, AreTried, IsLast, ReachesBy, ClosesBy}

@@ -1,10 +1,10 @@
 use Rattle.std.proofs.Common.{List, length, ◌∙◌, ap, subst, sym}
 use Rattle.ss_terms.specs.Forms.{formula_at, formulas_at}
 use Rattle.ss_search_path.specs.Paths.{known_on}
-use Rattle.ss_search_standing.specs.declared.standing.Standing.{Standing}
-use Rattle.ss_search_standing.specs.Standing.{AreStanding}
+use Rattle.ss_search_path.specs.declared.standing.Standing.{Standing}
+use Rattle.ss_search_path.specs.Standing.{AreStanding}
 use Rattle.ss_search_procedure.specs.Decisions.{bank_of, settled_ones}
-use Rattle.ss_search_procedure.proofs.Beginning.{none_reached, has_led}
+use Rattle.ss_search_procedure.proofs.GroundBegun.{none_reached, has_led}
 use Rattle.ss_search_procedure.proofs.setting.Settling.begin.Goals as goal
 
 pub start-requires-clause-given : goal.start-requires-clause-given

@@ -4,12 +4,12 @@ use Rattle.std.proofs.lemmas.Option.{slice_get-map, slice_get-get_or}
 use Rattle.ss_logic.specs.Formulas.{Formula}
 use Rattle.ss_terms.specs.declared.forms.FormulaId.{FormulaId}
 use Rattle.ss_terms.specs.Forms.{formula_at}
-use Rattle.ss_search_standing.specs.declared.standing.Standing.{Standing}
-use Rattle.ss_search_standing.specs.declared.standing.Standing.TheVariants.{Fact}
-use Rattle.ss_search_standing.specs.Standing.{Stands}
+use Rattle.ss_search_path.specs.declared.standing.Standing.{Standing}
+use Rattle.ss_search_path.specs.declared.standing.Standing.TheVariants.{Fact}
+use Rattle.ss_search_path.specs.Standing.{Stands}
 use Rattle.ss_search_reaching.proofs.Spread.{facts_same}
 use Rattle.ss_search_procedure.specs.Decisions.{bank_of, settled_ones}
-use Rattle.ss_search_procedure.proofs.Beginning.{all_reached}
+use Rattle.ss_search_procedure.proofs.GroundBegun.{all_reached}
 use Rattle.ss_search_procedure.proofs.setting.Settling.reach_all.Goals as goal
 
 pub bounds-standings-k : goal.bounds-standings-k

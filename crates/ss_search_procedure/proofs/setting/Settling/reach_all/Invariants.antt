@@ -1,7 +1,7 @@
 use Rattle.std.proofs.Common.{List}
 use Rattle.ss_core.specs.Tree.{ClassTree}
 use Rattle.ss_search_path.specs.Paths.{IsSame}
-use Rattle.ss_search_standing.specs.Standing.{AreStanding}
+use Rattle.ss_search_path.specs.Standing.{AreStanding}
 use Rattle.ss_search_reaching.specs.Reaching.{facts_of, Shows}
 use Rattle.ss_search_procedure.specs.Decisions.{settled_ones}
 use Rattle.ss_search_procedure.specs.Ground.{AreFirst}

@@ -4,13 +4,13 @@ use Rattle.ss_logic.specs.Formulas.{Formula}
 use Rattle.ss_terms.specs.declared.forms.FormulaId.{FormulaId}
 use Rattle.ss_terms.specs.Forms.{formula_at}
 use Rattle.ss_terms.proofs.Tested.{AreBelow-get}
-use Rattle.ss_search_standing.specs.Standing.{Stands}
-use Rattle.ss_search_standing.proofs.Facts.{read_there}
+use Rattle.ss_search_path.specs.Standing.{Stands}
+use Rattle.ss_search_path.proofs.StandingFacts.{read_there}
 use Rattle.ss_search_reaching.specs.Reaching.{facts_of}
 use Rattle.ss_search_reaching.proofs.Learning.{ok_both}
 use Rattle.ss_search_procedure.specs.Decisions.{bank_of}
 use Rattle.ss_search_reached.proofs.Names.{ok_then}
-use Rattle.ss_search_procedure.proofs.Beginning.{next_there, next_reached}
+use Rattle.ss_search_procedure.proofs.GroundBegun.{next_there, next_reached}
 use Rattle.ss_search_procedure.proofs.setting.Settling.reach_next.Goals as goal
 
 pub knows-requires-clause-reached : goal.knows-requires-clause-reached

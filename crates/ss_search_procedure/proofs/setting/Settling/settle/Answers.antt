@@ -3,7 +3,7 @@ use Rattle.std.proofs.lemmas.List.{length-map}
 use Rattle.std.proofs.lemmas.Result.{IfOk-weaker}
 use Rattle.ss_logic_countermodels.specs.Refuting.{IsCountermodel}
 use Rattle.ss_terms.specs.Forms.{formula_at, formulas_at}
-use Rattle.ss_rules_origins.specs.Views.{origin_at}
+use Rattle.ss_rules_opened.specs.Views.{origin_at}
 use Rattle.ss_search_procedure_rules.specs.Closed.{AreEnough}
 use Rattle.ss_search_procedure.specs.declared.settling.Settled.{Settled}
 use Rattle.ss_search_procedure.specs.declared.settling.Settled.TheVariants as settled

@@ -5,8 +5,8 @@ use Rattle.ss_equality_rules.specs.declared.Merge.{Merge}
 use Rattle.ss_equality_rules.specs.Equal.{Equations}
 use Rattle.ss_search_reached.proofs.Fronts.{front_itself}
 use Rattle.ss_search_reached.proofs.Names.{ok_then}
-use Rattle.ss_search_refuting.specs.Refuting.{bank_of, or_of, AreCasesFrom}
-use Rattle.ss_search_refuting.proofs.Parts.{cases_close}
+use Rattle.ss_search_reaching.specs.Refuting.{bank_of, or_of, AreCasesFrom}
+use Rattle.ss_search_reaching.proofs.Parts.{cases_close}
 use Rattle.ss_search_reaching.specs.Units.{UnitFrom}
 use Rattle.ss_search_reaching.proofs.Resolving.{stays_closed, after_stay, cases_there, beside_again}
 use Rattle.ss_search_reaching.proofs.branches.Beside.all.Goals as goal

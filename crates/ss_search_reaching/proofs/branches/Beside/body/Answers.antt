@@ -2,9 +2,9 @@ use Rattle.std.proofs.Common.{[], ◌∙◌, ap}
 use Rattle.ss_logic.specs.Formulas.{is_well_formed}
 use Rattle.ss_terms.specs.Forms.{formula_at}
 use Rattle.ss_search_path.specs.Paths.{known_on}
-use Rattle.ss_search_standing.proofs.Facts.{body_formed}
-use Rattle.ss_search_standing.proofs.Steps.{last_known}
-use Rattle.ss_search_refuting.specs.Refuting.{bank_of}
+use Rattle.ss_search_path.proofs.StandingFacts.{body_formed}
+use Rattle.ss_search_path.proofs.Steps.{last_known}
+use Rattle.ss_search_reaching.specs.Refuting.{bank_of}
 use Rattle.ss_search_reaching.proofs.branches.Beside.body.Goals as goal
 
 pub returns-clause-leads : goal.returns-clause-leads

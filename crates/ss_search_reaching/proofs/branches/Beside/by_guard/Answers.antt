@@ -9,13 +9,13 @@ use Rattle.ss_deriv.specs.declared.line.Line.{Line}
 use Rattle.ss_deriv.specs.Lines.{lines_of}
 use Rattle.ss_equality_rules.specs.declared.Merge.{Merge}
 use Rattle.ss_equality_rules.specs.Equal.{Equations}
-use Rattle.ss_search_closing.specs.Closing.{Closes}
+use Rattle.ss_search_clashes.specs.Closing.{Closes}
 use Rattle.ss_search_path.specs.Paths.{known_on}
 use Rattle.ss_search_reached.proofs.Fronts.{front_push, front_trans}
 use Rattle.ss_search_reached.proofs.Names.{ok_then}
 use Rattle.ss_search_reached.proofs.Branches.{one_branch}
-use Rattle.ss_search_refuting.specs.Refuting.{bank_of, or_of, AreShown}
-use Rattle.ss_search_standing.specs.Standing.{IsGuardedAt}
+use Rattle.ss_search_reaching.specs.Refuting.{bank_of, or_of, AreShown}
+use Rattle.ss_search_path.specs.Standing.{IsGuardedAt}
 use Rattle.std.specs.Prelude.{slice_get}
 use Rattle.std.proofs.Common.{◌≡◌, Some, true}
 use Rattle.ss_search_reaching.specs.Units.{IsResolved, part_of, LeadsToOne, UnitGuarded}

@@ -1,7 +1,7 @@
 use Rattle.std.proofs.Common.{subst, arith}
 use Rattle.std.specs.Prelude.{IfOk}
 use Rattle.ss_terms.specs.declared.forms.FormulaId.{FormulaId}
-use Rattle.ss_search_refuting.specs.Refuting.{or_of}
+use Rattle.ss_search_reaching.specs.Refuting.{or_of}
 use Rattle.ss_search_reaching.specs.Units.{IsResolved}
 use Rattle.ss_search_reaching.proofs.Guarding.{two_there}
 use Rattle.ss_search_reaching.proofs.branches.Beside.by_lines.Goals as goal

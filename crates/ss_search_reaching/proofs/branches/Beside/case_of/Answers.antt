@@ -2,7 +2,7 @@ use Rattle.std.proofs.Common.{◌≤◌, length, ◌∙◌, Vec, Global, arith}
 use Rattle.std.proofs.lemmas.Option.{MatchOption-at_some}
 use Rattle.ss_terms.specs.Forms.{formula_at}
 use Rattle.ss_deriv.specs.declared.line.Line.{Line}
-use Rattle.ss_search_refuting.specs.Refuting.{bank_of, ClosesFrom}
+use Rattle.ss_search_reaching.specs.Refuting.{bank_of, ClosesFrom}
 use Rattle.ss_search_reaching.proofs.Guarding.{some_none, assumed_closes, assumed_stays, assumed_back}
 use Rattle.ss_search_reaching.proofs.branches.Beside.case_of.Goals as goal
 

@@ -1,4 +1,4 @@
-use Rattle.ss_search_refuting.specs.Refuting.{bank_of}
+use Rattle.ss_search_reaching.specs.Refuting.{bank_of}
 use Rattle.ss_search_reaching.proofs.Guarding.{no_guarded}
 use Rattle.ss_search_reaching.proofs.branches.Beside.not_two.Goals as goal
 

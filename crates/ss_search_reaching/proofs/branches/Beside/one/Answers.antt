@@ -5,8 +5,8 @@ use Rattle.ss_search_reached.proofs.Fronts.{front_push, front_trans}
 use Rattle.ss_search_reached.proofs.Lists.{contains_get}
 use Rattle.ss_search_reached.proofs.Branches.{one_branch}
 use Rattle.ss_search_path.specs.Paths.{known_on}
-use Rattle.ss_search_standing.specs.Standing.{IsFact}
-use Rattle.ss_search_refuting.specs.Refuting.{bank_of}
+use Rattle.ss_search_path.specs.Standing.{IsFact}
+use Rattle.ss_search_reaching.specs.Refuting.{bank_of}
 use Rattle.ss_search_reaching.proofs.Resolving.{one_part}
 use Rattle.ss_search_reaching.proofs.branches.Beside.one.Goals as goal
 

@@ -6,7 +6,7 @@ use Rattle.ss_equality_rules.specs.declared.Merge.{Merge}
 use Rattle.ss_search_reached.proofs.Fronts.{front_itself}
 use Rattle.ss_search_reached.proofs.Lists.{below_more}
 use Rattle.ss_search_reached.proofs.Names.{ok_then}
-use Rattle.ss_search_refuting.specs.Refuting.{bank_of, or_of, AreCasesFrom}
+use Rattle.ss_search_reaching.specs.Refuting.{bank_of, or_of, AreCasesFrom}
 use Rattle.ss_search_reaching.specs.Units.{UnitFrom}
 use Rattle.ss_search_reaching.proofs.Resolving.{two_open, stays_open, after_stay, cases_there}
 use Rattle.ss_search_reaching.proofs.branches.Beside.others.Goals as goal

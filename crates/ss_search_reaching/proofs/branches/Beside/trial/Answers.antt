@@ -5,7 +5,7 @@ use Rattle.ss_deriv.specs.declared.line.Line.{Line}
 use Rattle.ss_search_path.proofs.Going.{goes_nowhere}
 use Rattle.ss_search_reached.proofs.Fronts.{front_itself}
 use Rattle.ss_search_reached.proofs.Branches.{one_branch}
-use Rattle.ss_search_refuting.specs.Refuting.{bank_of, ClosesFrom}
+use Rattle.ss_search_reaching.specs.Refuting.{bank_of, ClosesFrom}
 use Rattle.ss_search_reaching.proofs.Resolving.{two_open}
 use Rattle.ss_search_reaching.proofs.Guarding.{denial_basic, hold_first, hold_second, guard_undone, guard_back, end_kept, guard_denied}
 use Rattle.ss_search_reaching.proofs.branches.Beside.trial.Goals as goal

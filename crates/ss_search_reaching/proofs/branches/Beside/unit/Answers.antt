@@ -5,8 +5,8 @@ use Rattle.ss_search_reached.proofs.Fronts.{front_itself}
 use Rattle.ss_terms.specs.Forms.{Forms, HasFormulas}
 use Rattle.ss_search_reached.proofs.Lists.{below_more}
 use Rattle.ss_search_reached.proofs.Branches.{met_branch, open_branch}
-use Rattle.ss_search_refuting.specs.Refuting.{bank_of, or_of}
-use Rattle.ss_search_refuting.proofs.Parts.{stays_there}
+use Rattle.ss_search_reaching.specs.Refuting.{bank_of, or_of}
+use Rattle.ss_search_reaching.proofs.Parts.{stays_there}
 use Rattle.ss_search_reaching.proofs.Resolving.{stays_open}
 use Rattle.ss_search_reaching.proofs.branches.Beside.unit.Goals as goal
 

@@ -5,8 +5,8 @@ use Rattle.ss_terms.specs.Forms.{Forms, formula_at, HasFormula, HasFormulas, Are
 use Rattle.ss_search_reached.proofs.Fronts.{front_itself}
 use Rattle.ss_search_reached.proofs.Lists.{below_parts}
 use Rattle.ss_search_reached.proofs.Branches.{other_branch}
-use Rattle.ss_search_standing.specs.declared.standing.Standing.{Standing}
-use Rattle.ss_search_refuting.specs.Refuting.{bank_of, or_of}
+use Rattle.ss_search_path.specs.declared.standing.Standing.{Standing}
+use Rattle.ss_search_reaching.specs.Refuting.{bank_of, or_of}
 use Rattle.ss_search_reaching.specs.Units.{IsResolved, UnitFrom, UnitGuarded, UnitStanding}
 use Rattle.ss_search_reaching.proofs.Turning.{fact_leads, guarded_leads, nothing_leads}
 use Rattle.ss_search_reaching.proofs.branches.Beside.unit_of.Goals as goal

@@ -13,8 +13,8 @@ use Rattle.ss_search_reached.proofs.Holding.{none_holding}
 use Rattle.ss_search_reached.proofs.Branches.{no_units}
 use Rattle.ss_search_reaching.proofs.Resolving.{beside_again}
 use Rattle.ss_search_reaching.proofs.Turning.{no_units_yet, turn_next, turn_ends, next_units}
-use Rattle.ss_search_standing.specs.declared.standing.Standing.TheVariants.{Fact}
-use Rattle.ss_search_refuting.specs.Refuting.{bank_of}
+use Rattle.ss_search_path.specs.declared.standing.Standing.TheVariants.{Fact}
+use Rattle.ss_search_reaching.specs.Refuting.{bank_of}
 use Rattle.ss_search_reaching.specs.Units.{formulas_in, UnitStanding}
 use Rattle.ss_search_reaching.specs.Turns.{IsAdded}
 use Rattle.ss_search_reaching.proofs.branches.Beside.units.Goals as goal

@@ -7,13 +7,13 @@ use Rattle.ss_terms.specs.declared.forms.FormulaId.{FormulaId}
 use Rattle.ss_terms.specs.Forms.{formula_at, formulas_at, HasFormula}
 use Rattle.ss_terms.proofs.Tested.{AreBelow-get}
 use Rattle.ss_search_path.proofs.Going.{goes_nowhere}
-use Rattle.ss_logic_occurring.specs.Includes.{Includes}
+use Rattle.ss_logic.specs.Includes.{Includes}
 use Rattle.ss_search_reached.specs.Following.{Occur}
 use Rattle.ss_search_reached.proofs.Spread.{grown, none_known, next_known, occur_at}
 use Rattle.ss_search_reached.proofs.Turns.{no_shorter}
-use Rattle.ss_search_standing.specs.declared.standing.Standing.{Standing}
-use Rattle.ss_search_standing.specs.declared.standing.Standing.TheVariants.{Fact}
-use Rattle.ss_search_standing.specs.Standing.{Stands}
+use Rattle.ss_search_path.specs.declared.standing.Standing.{Standing}
+use Rattle.ss_search_path.specs.declared.standing.Standing.TheVariants.{Fact}
+use Rattle.ss_search_path.specs.Standing.{Stands}
 use Rattle.ss_search_reaching.specs.Reaching.{reached_of}
 use Rattle.ss_search_reaching.specs.Units.{formulas_in}
 use Rattle.ss_search_reaching.proofs.Learning.{nothing_grows, grows_more}

@@ -2,7 +2,7 @@ use Rattle.std.proofs.Common.{◌≡◌, List, length, take}
 use Rattle.ss_core.specs.Tree.{ClassTree}
 use Rattle.ss_terms.specs.Forms.{formulas_at}
 use Rattle.ss_search_path.specs.Paths.{IsSame}
-use Rattle.ss_logic_occurring.specs.Includes.{Includes}
+use Rattle.ss_logic.specs.Includes.{Includes}
 use Rattle.ss_search_reaching.specs.Reaching.{facts_of, reached_of, Shows, Grows}
 use Rattle.ss_search_reaching.specs.Units.{formulas_in, AllStand}
 use Rattle.ss_search_reaching.proofs.reaching.Reaching.learn_units.Given as goal

@@ -7,15 +7,15 @@ use Rattle.ss_terms.specs.declared.forms.FormulaId.{FormulaId}
 use Rattle.ss_terms.specs.Forms.{formulas_at, HasFormulas}
 use Rattle.ss_deriv.specs.Lines.{lines_of}
 use Rattle.ss_search_clashes.specs.Numbered.{class_of}
-use Rattle.ss_logic_occurring.specs.Includes.{Includes}
+use Rattle.ss_logic.specs.Includes.{Includes}
 use Rattle.ss_search_procedure_rules.specs.Closed.{basics, IsSaturated}
 use Rattle.ss_search_procedure_rules.specs.Clashes.{FitsClasses}
-use Rattle.ss_search_closing.specs.Closing.{Closes}
+use Rattle.ss_search_clashes.specs.Closing.{Closes}
 use Rattle.ss_search_reached.specs.Following.{Occur, HasNoSum, IsOpen}
 use Rattle.ss_search_reached.proofs.Names.{ok_any}
 use Rattle.ss_search_reached.proofs.Saturated.{open_is_saturated}
 use Rattle.ss_search_reached.proofs.Turns.{less_room, open_now}
-use Rattle.ss_search_standing.specs.declared.standing.Standing.{Standing}
+use Rattle.ss_search_path.specs.declared.standing.Standing.{Standing}
 use Rattle.ss_search_reaching.specs.Reaching.{facts_of, reached_of, Shows}
 use Rattle.ss_search_reaching.specs.Units.{formulas_in}
 use Rattle.ss_search_reaching.specs.Turns.{Turns, TurnFrom}

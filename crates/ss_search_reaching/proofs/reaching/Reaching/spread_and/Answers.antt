@@ -4,9 +4,9 @@ use Rattle.std.proofs.lemmas.Option.{slice_get-get_or}
 use Rattle.ss_terms.specs.declared.forms.FormulaId.{FormulaId}
 use Rattle.ss_terms.specs.Forms.{formulas_at}
 use Rattle.ss_search_path.proofs.Going.{goes_through, goes_nowhere}
-use Rattle.ss_logic_occurring.specs.Includes.{Includes}
+use Rattle.ss_logic.specs.Includes.{Includes}
 use Rattle.ss_search_reached.proofs.Spread.{grown, none_known, next_known, still_occur}
-use Rattle.ss_search_refuting.specs.Refuting.{and_of}
+use Rattle.ss_search_reaching.specs.Refuting.{and_of}
 use Rattle.ss_search_reaching.specs.Reaching.{reached_of}
 use Rattle.ss_search_reaching.proofs.Learning.{nothing_grows, grows_more}
 use Rattle.ss_search_reaching.proofs.Spread.{still_opened}

@@ -2,9 +2,9 @@ use Rattle.std.proofs.Common.{◌≡◌, List, take}
 use Rattle.ss_core.specs.Tree.{ClassTree}
 use Rattle.ss_logic.specs.Formulas.{Formula}
 use Rattle.ss_terms.specs.Forms.{formulas_at}
-use Rattle.ss_logic_occurring.specs.Includes.{Includes}
-use Rattle.ss_search_standing.specs.Standing.{IsOpenedFact}
-use Rattle.ss_search_refuting.specs.Refuting.{and_of}
+use Rattle.ss_logic.specs.Includes.{Includes}
+use Rattle.ss_search_path.specs.Standing.{IsOpenedFact}
+use Rattle.ss_search_reaching.specs.Refuting.{and_of}
 use Rattle.ss_search_reaching.specs.Reaching.{facts_of, reached_of, Shows, Grows, ReachesOn}
 use Rattle.ss_search_reaching.proofs.reaching.Reaching.spread_and.Given as goal
 

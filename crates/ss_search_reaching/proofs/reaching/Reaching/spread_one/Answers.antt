@@ -6,15 +6,15 @@ use Rattle.std.proofs.lemmas.Option.{slice_get_read}
 use Rattle.ss_terms.specs.declared.forms.FormulaId.{FormulaId}
 use Rattle.ss_terms.specs.Forms.{formula_at, formulas_at, HasFormula, HasFormulas}
 use Rattle.ss_terms.proofs.Tested.{AreBelow-get}
-use Rattle.ss_logic_occurring.specs.Includes.{Includes}
+use Rattle.ss_logic.specs.Includes.{Includes}
 use Rattle.ss_search_procedure_rules.proofs.Lists.{map_to}
 use Rattle.ss_search_reached.specs.Following.{Occur, IsSpread}
 use Rattle.ss_search_reached.proofs.Lists.{contains_get, below_parts}
 use Rattle.ss_search_reached.proofs.Names.{ok_then}
 use Rattle.ss_search_reached.proofs.Spread.{and_occur, and_spread, other_spread}
-use Rattle.ss_search_standing.specs.Standing.{IsOpenedFact}
-use Rattle.ss_search_standing.proofs.Facts.{some_same}
-use Rattle.ss_search_refuting.specs.Refuting.{and_of}
+use Rattle.ss_search_path.specs.Standing.{IsOpenedFact}
+use Rattle.ss_search_path.proofs.StandingFacts.{some_same}
+use Rattle.ss_search_reaching.specs.Refuting.{and_of}
 use Rattle.ss_search_reaching.specs.Reaching.{place_of, facts_of, reached_of}
 use Rattle.ss_search_reaching.proofs.Learning.{nothing_grows, reaches_itself}
 use Rattle.ss_search_reaching.proofs.Spread.{and_reaches}

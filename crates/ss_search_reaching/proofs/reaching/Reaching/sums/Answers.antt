@@ -10,9 +10,9 @@ use Rattle.ss_deriv.specs.Lines.{lines_of}
 use Rattle.ss_equality_rules.specs.Equal.{AreClassesOf}
 use Rattle.ss_search_clashes.specs.Numbered.{class_of}
 use Rattle.ss_search_procedure_rules.specs.Closed.{basics}
-use Rattle.ss_search_closing.specs.Closing.{Closes}
+use Rattle.ss_search_clashes.specs.Closing.{Closes}
 use Rattle.ss_search_reached.specs.Following.{HasNoSum}
-use Rattle.ss_search_clashing.specs.Cases.{AreAt}
+use Rattle.ss_search_clashes.specs.Cases.{AreAt}
 use Rattle.ss_search_whole_sums.specs.WholeSums.{CloseSums}
 use Rattle.ss_search_reaching.specs.Reaching.{place_of, facts_of, reached_of, Shows}
 use Rattle.ss_search_reaching.proofs.Turning.{none_then, shows_at, known_merges}

@@ -1,6 +1,0 @@
-use Rattle.ss_terms.specs.Forms.{symbol_of}
-use Rattle.ss_check_steps.proofs.Nodes.{no_value}
-use Rattle.ss_check_steps.proofs.literals.is_value_form.Goals as goal
-
-pub returns-in_default : goal.returns-in_default
-returns-in_default c = no_value c.args.bank.now (symbol_of c.args.symbol) c.args.ts.now c.in_default.len_at_least

@@ -1,9 +1,0 @@
-pub mod Facts
-pub mod Walks
-pub mod Classes
-pub mod Names
-pub mod OwnReads
-pub mod Elaborations
-pub mod Invariants
-pub mod Bare
-pub mod Refusals

@@ -1,5 +1,0 @@
-use Rattle.ss_expand_formed_fields.proofs.Returns.{return_with_fields as law}
-use Rattle.ss_expand_formed_fields.proofs.laws.return_with_fields.Goals as goal
-
-pub returns : goal.returns
-returns c = law

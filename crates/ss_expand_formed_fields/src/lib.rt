@@ -1,7 +1,0 @@
-//! The fields that constructors assign, in the elaboration of every program that the phases find no fault in. No step of the program calls these
-//! functions: each says one law over the definitions.
-#![tactic(auto)]
-
-mod laws;
-
-pub use laws::{are_ready_with_fields, return_with_fields};

@@ -1,3 +1,0 @@
-pub mod Truths
-pub mod Monotone
-pub mod Kept

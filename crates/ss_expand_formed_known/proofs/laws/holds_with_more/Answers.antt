@@ -1,5 +1,0 @@
-use Rattle.ss_expand_formed_known.proofs.Monotone.{holds_more as law}
-use Rattle.ss_expand_formed_known.proofs.laws.holds_with_more.Goals as goal
-
-pub returns : goal.returns
-returns c = law

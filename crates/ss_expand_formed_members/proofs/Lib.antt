@@ -1,4 +1,0 @@
-pub mod Marks
-pub mod Reading
-pub mod Requires
-pub mod Declared

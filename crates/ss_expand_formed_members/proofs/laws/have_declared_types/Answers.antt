@@ -1,5 +1,0 @@
-use Rattle.ss_expand_formed_members.proofs.Declared.{have_declared_types as law}
-use Rattle.ss_expand_formed_members.proofs.laws.have_declared_types.Goals as goal
-
-pub returns : goal.returns
-returns c = law

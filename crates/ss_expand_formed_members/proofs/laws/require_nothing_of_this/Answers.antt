@@ -1,5 +1,0 @@
-use Rattle.ss_expand_formed_members.proofs.Requires.{require_nothing_of_this as law}
-use Rattle.ss_expand_formed_members.proofs.laws.require_nothing_of_this.Goals as goal
-
-pub returns : goal.returns
-returns c = law

@@ -1,9 +1,0 @@
-pub mod Levels
-pub mod Members
-pub mod Apart
-pub mod Readings
-pub mod Normal
-pub mod Headings
-pub mod Contracts
-pub mod Inherited
-pub mod Tables

@@ -1,4 +1,0 @@
-pub mod Typings
-pub mod Written
-pub mod Made
-pub mod Types

@@ -1,5 +1,0 @@
-use Rattle.ss_expand_formed_whole.proofs.Whole.{elaboration_is_formed as law}
-use Rattle.ss_expand_formed_whole.proofs.laws.elaboration_is_formed.Goals as goal
-
-pub returns : goal.returns
-returns c = law

@@ -1,4 +1,0 @@
-pub mod Chosen
-pub mod Sound
-pub mod Bad
-pub mod Valid

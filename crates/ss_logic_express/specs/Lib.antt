@@ -1,2 +1,0 @@
-pub mod Express
-pub mod Invariants

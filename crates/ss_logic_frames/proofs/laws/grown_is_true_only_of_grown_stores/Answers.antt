@@ -1,5 +1,0 @@
-use Rattle.ss_logic_frames.proofs.Kept.{grown_from}
-use Rattle.ss_logic_frames.proofs.laws.grown_is_true_only_of_grown_stores.Goals as goal
-
-pub returns : goal.returns
-returns c = grown_from

@@ -1,5 +1,0 @@
-use Rattle.ss_logic_frames.proofs.Kept.{kept_to}
-use Rattle.ss_logic_frames.proofs.laws.kept_is_true_of_kept_stores.Goals as goal
-
-pub returns : goal.returns
-returns c = kept_to

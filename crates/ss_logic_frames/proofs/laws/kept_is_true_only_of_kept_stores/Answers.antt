@@ -1,5 +1,0 @@
-use Rattle.ss_logic_frames.proofs.Kept.{kept_from}
-use Rattle.ss_logic_frames.proofs.laws.kept_is_true_only_of_kept_stores.Goals as goal
-
-pub returns : goal.returns
-returns c = kept_from

@@ -1,5 +1,0 @@
-pub mod Occurring
-pub mod Opened
-pub mod Asked
-pub mod Matching
-pub mod Ground

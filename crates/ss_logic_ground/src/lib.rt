@@ -1,2 +1,0 @@
-//! Definitions: the ground form of an obligation, a list of instances by rounds.
-#![tactic(auto)]

@@ -1,5 +1,0 @@
-use Rattle.ss_logic_instances.proofs.Ruling.{instance_formed}
-use Rattle.ss_logic_instances.proofs.laws.every_instance_is_well_formed.Goals as goal
-
-pub returns : goal.returns
-returns c = instance_formed

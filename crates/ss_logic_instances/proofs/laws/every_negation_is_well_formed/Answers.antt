@@ -1,6 +1,0 @@
-use Rattle.std.proofs.Common.{[]}
-use Rattle.ss_logic_means.proofs.Sorting.{neg_formed}
-use Rattle.ss_logic_instances.proofs.laws.every_negation_is_well_formed.Goals as goal
-
-pub returns : goal.returns
-returns c = λ cs f h. neg_formed cs [] f h

@@ -1,2 +1,0 @@
-//! Lemmas on what occurs in a list of formulas. No function.
-#![tactic(auto)]

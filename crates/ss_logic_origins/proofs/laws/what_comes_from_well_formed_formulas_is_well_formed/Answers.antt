@@ -1,5 +1,0 @@
-use Rattle.ss_logic_origins.proofs.Whole.{listed_formed}
-use Rattle.ss_logic_origins.proofs.laws.what_comes_from_well_formed_formulas_is_well_formed.Goals as goal
-
-pub returns : goal.returns
-returns c = λ cs invariants premises goal given choices accepted fs origins are. listed_formed cs premises goal choices given accepted invariants fs origins are

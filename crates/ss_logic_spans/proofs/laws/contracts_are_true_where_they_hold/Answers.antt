@@ -1,5 +1,0 @@
-use Rattle.ss_logic_spans.proofs.Contexts.{contract_means}
-use Rattle.ss_logic_spans.proofs.laws.contracts_are_true_where_they_hold.Goals as goal
-
-pub returns : goal.returns
-returns c = contract_means

@@ -1,5 +1,0 @@
-use Rattle.ss_logic_spans.proofs.Standing.{entry_arguments}
-use Rattle.ss_logic_spans.proofs.laws.entries_have_their_locals.Goals as goal
-
-pub returns : goal.returns
-returns c = entry_arguments

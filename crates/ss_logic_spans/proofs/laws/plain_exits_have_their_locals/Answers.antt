@@ -1,5 +1,0 @@
-use Rattle.ss_logic_spans.proofs.Contexts.{plain_exit_arguments}
-use Rattle.ss_logic_spans.proofs.laws.plain_exits_have_their_locals.Goals as goal
-
-pub returns : goal.returns
-returns c = plain_exit_arguments

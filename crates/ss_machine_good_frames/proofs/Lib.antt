@@ -1,5 +1,0 @@
-pub mod Later
-pub mod Behind
-pub mod Values
-pub mod Statements
-pub mod Paths

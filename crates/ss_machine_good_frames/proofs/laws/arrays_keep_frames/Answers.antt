@@ -1,5 +1,0 @@
-use Rattle.ss_machine_good_frames.proofs.Statements.{array_good}
-use Rattle.ss_machine_good_frames.proofs.laws.arrays_keep_frames.Goals as goal
-
-pub returns : goal.returns
-returns c = array_good

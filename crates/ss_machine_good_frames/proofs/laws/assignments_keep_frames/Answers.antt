@@ -1,5 +1,0 @@
-use Rattle.ss_machine_good_frames.proofs.Statements.{assigned_good}
-use Rattle.ss_machine_good_frames.proofs.laws.assignments_keep_frames.Goals as goal
-
-pub returns : goal.returns
-returns c = assigned_good

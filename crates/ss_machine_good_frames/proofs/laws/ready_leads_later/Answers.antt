@@ -1,5 +1,0 @@
-use Rattle.ss_machine_good_frames.proofs.Later.{later_ready}
-use Rattle.ss_machine_good_frames.proofs.laws.ready_leads_later.Goals as goal
-
-pub returns : goal.returns
-returns c = later_ready

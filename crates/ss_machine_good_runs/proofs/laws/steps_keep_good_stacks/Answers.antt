@@ -1,5 +1,0 @@
-use Rattle.ss_machine_good_runs.proofs.Runs.{step_good}
-use Rattle.ss_machine_good_runs.proofs.laws.steps_keep_good_stacks.Goals as goal
-
-pub returns : goal.returns
-returns c = step_good

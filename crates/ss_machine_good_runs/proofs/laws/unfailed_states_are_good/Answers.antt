@@ -1,5 +1,0 @@
-use Rattle.ss_machine_good_runs.proofs.Runs.{run_good}
-use Rattle.ss_machine_good_runs.proofs.laws.unfailed_states_are_good.Goals as goal
-
-pub returns : goal.returns
-returns c = run_good

@@ -1,4 +1,0 @@
-pub mod Followed
-pub mod Constructors
-pub mod Runs
-pub mod States

@@ -1,5 +1,0 @@
-use Rattle.ss_machine_non_null.proofs.States.{run_non_null}
-use Rattle.ss_machine_non_null.proofs.laws.non_null_never_gives_null.Goals as goal
-
-pub returns : goal.returns
-returns c = run_non_null

@@ -1,3 +1,0 @@
-pub mod Closing
-pub mod Coming
-pub mod Noted

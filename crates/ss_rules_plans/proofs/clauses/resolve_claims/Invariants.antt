@@ -1,6 +1,0 @@
-use Rattle.std.proofs.Common.{◌≡◌, take, map}
-use Rattle.ss_rules_plans.specs.Plans.{fact_of}
-use Rattle.ss_rules_plans.proofs.clauses.resolve_claims.Given as goal
-
-abbrev pub invariant-loop-claim : goal.invariant-loop-claim
-invariant-loop-claim l = l.facts.items ≡ map (fact_of l.made) (take l.claim-index l.claims)

@@ -1,3 +1,0 @@
-pub mod Making
-pub mod Again
-pub mod Noted

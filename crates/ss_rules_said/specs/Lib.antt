@@ -1,2 +1,0 @@
-pub mod AreMade
-pub mod Said

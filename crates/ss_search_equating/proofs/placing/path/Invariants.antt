@@ -1,6 +1,0 @@
-use Rattle.std.proofs.Common.{◌≡◌, take}
-use Rattle.ss_search_equating.specs.Placed.{places_of}
-use Rattle.ss_search_equating.proofs.placing.path.Given as goal
-
-abbrev pub invariant-loop-number : goal.invariant-loop-number
-invariant-loop-number l = l.path.items ≡ places_of l.places (take l.number-index l.number-items)

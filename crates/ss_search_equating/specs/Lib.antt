@@ -1,5 +1,0 @@
-pub mod Ways
-pub mod Legs
-pub mod Needed
-pub mod Said
-pub mod Placed

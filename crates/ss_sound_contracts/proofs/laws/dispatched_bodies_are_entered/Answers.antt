@@ -1,5 +1,0 @@
-use Rattle.ss_sound_contracts.proofs.Served.{entered}
-use Rattle.ss_sound_contracts.proofs.laws.dispatched_bodies_are_entered.Goals as goal
-
-pub returns : goal.returns
-returns c = λ a d from to serves s arguments on passed. entered a.program d from to serves s arguments on passed

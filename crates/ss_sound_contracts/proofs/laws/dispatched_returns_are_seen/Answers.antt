@@ -1,5 +1,0 @@
-use Rattle.ss_sound_contracts.proofs.Served.{returned_as_seen}
-use Rattle.ss_sound_contracts.proofs.laws.dispatched_returns_are_seen.Goals as goal
-
-pub returns : goal.returns
-returns c = returned_as_seen

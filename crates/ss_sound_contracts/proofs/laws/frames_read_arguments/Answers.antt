@@ -1,5 +1,0 @@
-use Rattle.ss_sound_contracts.proofs.Spans.{frames_read}
-use Rattle.ss_sound_contracts.proofs.laws.frames_read_arguments.Goals as goal
-
-pub returns : goal.returns
-returns c = λ t b formed s z outside arguments locals v has. frames_read t b formed s z outside arguments locals v has

@@ -1,5 +1,0 @@
-use Rattle.ss_sound_contracts.proofs.Served.{passed_as_seen}
-use Rattle.ss_sound_contracts.proofs.laws.seen_arguments_are_passed.Goals as goal
-
-pub returns : goal.returns
-returns c = passed_as_seen

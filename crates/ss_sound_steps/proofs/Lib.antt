@@ -1,9 +1,0 @@
-pub mod Goes
-pub mod Grown
-pub mod Tables
-pub mod Points
-pub mod Later
-pub mod Answers
-pub mod Behind
-pub mod Passed
-pub mod Statements

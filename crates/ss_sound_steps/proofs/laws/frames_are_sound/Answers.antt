@@ -1,5 +1,0 @@
-use Rattle.ss_sound_steps.proofs.Points.{sound_point}
-use Rattle.ss_sound_steps.proofs.laws.frames_are_sound.Goals as goal
-
-pub returns : goal.returns
-returns c = sound_point

@@ -1,5 +1,0 @@
-use Rattle.ss_sound_steps.proofs.Behind.{reached_trans}
-use Rattle.ss_sound_steps.proofs.laws.reached_goes_on.Goals as goal
-
-pub returns : goal.returns
-returns c = reached_trans

@@ -1,5 +1,0 @@
-use Rattle.ss_sound_steps.proofs.Tables.{fits_before}
-use Rattle.ss_sound_steps.proofs.laws.tables_fit_before.Goals as goal
-
-pub returns : goal.returns
-returns c = fits_before

@@ -1,9 +1,0 @@
-use Rattle.std.proofs.Common.{◌≡◌, length}
-use Rattle.ss_terms_avoids.specs.Entries.{AreFormulaEntries}
-use Rattle.ss_terms_avoids.proofs.formulas.formula_entries.Given as goal
-
-abbrev pub invariant-loop-n : goal.invariant-loop-n
-invariant-loop-n l = record {
-  entries : AreFormulaEntries l.bank l.constant.sort l.constant.number l.entries.items;
-  count : length l.entries.items ≡ l.n;
-}

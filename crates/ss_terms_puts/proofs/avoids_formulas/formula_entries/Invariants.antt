@@ -1,0 +1,9 @@
+use Rattle.std.proofs.Common.{◌≡◌, length}
+use Rattle.ss_terms_puts.specs.Entries.{AreFormulaEntries}
+use Rattle.ss_terms_puts.proofs.avoids_formulas.formula_entries.Given as goal
+
+abbrev pub invariant-loop-n : goal.invariant-loop-n
+invariant-loop-n l = record {
+  entries : AreFormulaEntries l.bank l.constant.sort l.constant.number l.entries.items;
+  count : length l.entries.items ≡ l.n;
+}

@@ -1,5 +1,0 @@
-use Rattle.ss_top_cases.proofs.Limits.{none_within}
-use Rattle.ss_top_cases.proofs.lines.no_class.Goals as goal
-
-pub returns : goal.returns
-returns c = none_within _ c.new.ensures.items

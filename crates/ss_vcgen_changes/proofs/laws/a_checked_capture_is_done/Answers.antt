@@ -1,5 +1,0 @@
-use Rattle.ss_vcgen_changes.proofs.Checked.{rep_done}
-use Rattle.ss_vcgen_changes.proofs.laws.a_checked_capture_is_done.Goals as goal
-
-pub returns : goal.returns
-returns c = rep_done

@@ -1,5 +1,0 @@
-use Rattle.ss_vcgen_changes.proofs.Standing.{has_objects}
-use Rattle.ss_vcgen_changes.proofs.laws.a_term_for_a_good_heap_has_its_objects.Goals as goal
-
-pub returns : goal.returns
-returns c = has_objects

@@ -1,5 +1,0 @@
-use Rattle.ss_vcgen_changes.proofs.Behind.{next_stands}
-use Rattle.ss_vcgen_changes.proofs.laws.the_next_reference_is_the_new_object.Goals as goal
-
-pub returns : goal.returns
-returns c = next_stands

@@ -1,5 +1,0 @@
-use Rattle.ss_vcgen_changes.proofs.Standing.{is_good}
-use Rattle.ss_vcgen_changes.proofs.laws.the_store_of_a_term_is_good.Goals as goal
-
-pub returns : goal.returns
-returns c = is_good

@@ -1,5 +1,0 @@
-use Rattle.ss_vcgen_changes.proofs.Behind.{write_behind}
-use Rattle.ss_vcgen_changes.proofs.laws.the_term_has_a_field_written.Goals as goal
-
-pub returns : goal.returns
-returns c = write_behind

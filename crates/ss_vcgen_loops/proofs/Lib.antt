@@ -1,9 +1,0 @@
-pub mod Known
-pub mod Tests
-pub mod Levels
-pub mod Again
-pub mod Framed
-pub mod Typed
-pub mod Loops
-pub mod Heads
-pub mod Goes

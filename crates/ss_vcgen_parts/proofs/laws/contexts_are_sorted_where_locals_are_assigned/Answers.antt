@@ -1,5 +1,0 @@
-use Rattle.ss_vcgen_parts.proofs.Placed.{assigned_sorted}
-use Rattle.ss_vcgen_parts.proofs.laws.contexts_are_sorted_where_locals_are_assigned.Goals as goal
-
-pub returns : goal.returns
-returns c = assigned_sorted

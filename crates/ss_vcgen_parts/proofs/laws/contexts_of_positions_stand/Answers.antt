@@ -1,5 +1,0 @@
-use Rattle.ss_vcgen_parts.proofs.Placed.{position_stands}
-use Rattle.ss_vcgen_parts.proofs.laws.contexts_of_positions_stand.Goals as goal
-
-pub returns : goal.returns
-returns c = position_stands

@@ -1,5 +1,0 @@
-use Rattle.ss_vcgen_parts.proofs.Read.{values_parts}
-use Rattle.ss_vcgen_parts.proofs.laws.parts_of_all_values_are_true.Goals as goal
-
-pub returns : goal.returns
-returns c = values_parts

@@ -1,5 +1,0 @@
-use Rattle.ss_vcgen_parts.proofs.Placed.{position_read}
-use Rattle.ss_vcgen_parts.proofs.laws.positions_are_read.Goals as goal
-
-pub returns : goal.returns
-returns c = position_read
