@@ -27,8 +27,10 @@ use Rattle.ss_terms.specs.declared.forms.Formula.{Formula as Form}
 use Rattle.ss_terms.specs.declared.forms.Formula.TheVariants.{Literal as LiteralForm, And as AndForm, Or as OrForm, Forall as ForallForm, Exists as ExistsForm}
 use Rattle.ss_terms.specs.Forms.{Forms, formula_at, formulas_at, term_at, terms_at, HasFormula, HasFormulas, HasTerms, AreTermsBelow, AreBelow, IsFormulaForm, IsGrown}
 use Rattle.ss_terms.proofs.Grown.{terms_at-grown, formulas_at-grown}
-use Rattle.ss_terms_puts.proofs.Putting.{AreBelow-get, put_all-map}
-use Rattle.ss_check_steps.specs.Numbered.{IsNumberOf, IsStepped, one_of}
+use Rattle.ss_terms_puts.proofs.Putting.{put_all-map}
+use Rattle.ss_terms.proofs.Tested.{AreBelow-get}
+use Rattle.ss_check_steps.specs.Numbered.{IsStepped}
+use Rattle.ss_terms.specs.Numbered.{IsNumberOf, one_of}
 use Rattle.ss_check_steps.specs.Stack.{cases_from, state_of, waiting_of, AreCases}
 use Rattle.ss_check_steps.proofs.Stacks.{cases_from-grown, state_of-grown}
 use Rattle.ss_check.specs.Within.{LineWithin}

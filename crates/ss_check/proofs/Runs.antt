@@ -16,7 +16,8 @@ use Rattle.ss_terms.proofs.Grown.{HasTerm-grown, HasTerms-grown, HasFormula-grow
 use Rattle.ss_check_steps.specs.Numbered.{IsStepped}
 use Rattle.ss_check.specs.Within.{LineWithin}
 use Rattle.ss_check_steps.specs.Stack.{IsStack, state_of, AreCases, IsReopened}
-use Rattle.ss_check_steps.proofs.Numbers.{HasFormulas-take, HasFormulas-push}
+use Rattle.ss_check_steps.proofs.Numbers.{HasFormulas-take}
+use Rattle.ss_terms.proofs.Longer.{HasFormulas-push}
 use Rattle.ss_check_steps.proofs.Stacks.{cases_from-longer, cases_from-cut, IsStack-longer}
 
 module _ (b : Forms) (known known' : List FormulaId) (w w' : List (ℕ × FormulaId)) (o : Bool) where

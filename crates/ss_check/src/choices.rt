@@ -7,7 +7,7 @@ ghost use Rattle.ss_logic.specs.Formulas.{neg, formulas_from};
 ghost use Rattle.ss_logic_means.specs.Steps as steps;
 ghost use Rattle.ss_logic_means.specs.Steps.{choice};
 ghost use Rattle.ss_terms.specs.Forms.{formula_at, formulas_at, terms_at, HasTerms, HasFormula, HasFormulas, IsGrown, IsBankOf};
-ghost use Rattle.ss_check_steps.specs.Numbered.{IsNumberOf};
+ghost use Rattle.ss_terms.specs.Numbered.{IsNumberOf};
 
 use crate::context::CheckContext;
 use ss_core::Classes;

@@ -6,7 +6,7 @@ ghost use Rattle.ss_logic.specs.Formulas as logic;
 ghost use Rattle.ss_logic.specs.Formulas.{formulas_from, is_well_formed};
 ghost use Rattle.ss_logic_means.specs.Steps.{body_at};
 ghost use Rattle.ss_terms.specs.Forms.{term_at, terms_at, formula_at, formulas_at, HasTerm, HasTerms, HasFormula, HasFormulas, AreBelow, IsGrown, IsBankOf};
-ghost use Rattle.ss_check_steps.specs.Numbered.{one_of};
+ghost use Rattle.ss_terms.specs.Numbered.{one_of};
 ghost use Rattle.ss_check.specs.Delayed.{is_and, delayed_pair, delayed_of, delayed_in, IsDelayed, both_of, meant, meant_alone, IsInstance};
 
 use ss_check_steps::{good_store_at, known_at};

@@ -6,7 +6,7 @@ ghost use Rattle.ss_core.specs.View as view;
 ghost use Rattle.ss_logic_means.specs.Steps.{fact_of};
 ghost use Rattle.ss_terms.specs.Forms.{formula_at, formulas_at, HasFormula, HasFormulas, IsGrown, IsBankOf};
 ghost use Rattle.ss_deriv.specs.Lines.{line_in};
-ghost use Rattle.ss_check_steps.specs.Numbered.{IsNumberOf};
+ghost use Rattle.ss_terms.specs.Numbered.{IsNumberOf};
 ghost use Rattle.ss_check.specs.Within.{LineWithin};
 
 use crate::choices::choose;

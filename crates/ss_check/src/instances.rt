@@ -8,7 +8,7 @@ ghost use Rattle.ss_logic.specs.GoodRules.{good_instance_of};
 ghost use Rattle.ss_logic.specs.Invariants.{invariants_of};
 ghost use Rattle.ss_logic_means.specs.Steps.{good_store};
 ghost use Rattle.ss_terms.specs.Forms.{formulas_at, terms_at, HasTerms, HasFormulas, IsGrown, IsBankOf};
-ghost use Rattle.ss_check_steps.specs.Numbered.{IsNumberOf};
+ghost use Rattle.ss_terms.specs.Numbered.{IsNumberOf};
 
 use crate::context::CheckContext;
 use ss_check_steps::{good_store_at, known_at};

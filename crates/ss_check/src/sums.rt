@@ -4,7 +4,7 @@ ghost use Rattle.std.specs.Prelude.{IfOk};
 ghost use Rattle.ss_core.specs.View as view;
 ghost use Rattle.ss_logic.specs.Sums.{sum_of};
 ghost use Rattle.ss_terms.specs.Forms.{formulas_at, HasFormulas, IsGrown, IsBankOf};
-ghost use Rattle.ss_check_steps.specs.Numbered.{IsNumberOf};
+ghost use Rattle.ss_terms.specs.Numbered.{IsNumberOf};
 
 use ss_core::Classes;
 use ss_deriv::Sum;

@@ -7,7 +7,7 @@ ghost use Rattle.ss_logic.specs.Formulas.{formulas_from, are_well_formed};
 ghost use Rattle.ss_logic_means.specs.Steps.{body_at, part_of, choice, fact_of};
 ghost use Rattle.ss_terms.specs.Forms.{term_at, terms_at, formula_at, formulas_at, HasTerm, HasTerms, HasFormula, HasFormulas, IsGrown, IsBankOf};
 ghost use Rattle.ss_deriv.specs.Lines.{line_in};
-ghost use Rattle.ss_check_steps.specs.Numbered.{IsNumberOf};
+ghost use Rattle.ss_terms.specs.Numbered.{IsNumberOf};
 ghost use Rattle.ss_check.specs.Within.{LineWithin};
 ghost use Rattle.ss_check.specs.Delayed.{meant, is_plain, AddsFact, IsTold};
 

@@ -1,5 +1,5 @@
 -- What lines do over numbers is what they do over formulas.
-use Rattle.std.proofs.Common.{◌≡◌, ℕ, zero, suc, ◌+◌, ◌*◌, ◌<◌, List, [], ◌∷◌, ◌++◌, length, take, drop, Option, Some, None, refl, sym, ◌∙◌, ap, subst, arith, get_or, Vec, Global, Result, Ok, Err}
+use Rattle.std.proofs.Common.{◌≡◌, ℕ, zero, suc, ◌+◌, ◌*◌, ◌<◌, List, [], ◌∷◌, length, take, drop, Option, Some, None, refl, sym, ◌∙◌, ap, subst, arith, get_or, Vec, Global, Result, Ok, Err}
 use Rattle.std.specs.List.{slice_get}
 use Rattle.std.specs.Prelude.{option_map, IfOk}
 use Rattle.std.proofs.lemmas.List.{drop_more}
@@ -13,16 +13,13 @@ use Rattle.ss_terms.specs.declared.forms.FormulaId.{FormulaId}
 use Rattle.ss_terms.specs.declared.forms.Formula.TheVariants.{And as AndForm, Or as OrForm}
 use Rattle.ss_terms.specs.Forms.{Forms, formula_at, formulas_at, HasFormula, HasFormulas, IsFormulaForm, IsFormulaNumber}
 use Rattle.ss_terms.proofs.Trees.{AreBelow-more}
-use Rattle.ss_check_steps.specs.Numbered.{IsNumberOf, AreNumbersOf}
+use Rattle.ss_check_steps.specs.Numbered.{AreNumbersOf}
+use Rattle.ss_terms.specs.Numbered.{IsNumberOf}
 
 pub HasFormulas-get : (b : Forms) (fs : List FormulaId) (i : ℕ) (f : FormulaId) → HasFormulas b fs → slice_get fs i ≡ Some f → HasFormula b f
 HasFormulas-get b [] i f h e = cc
 HasFormulas-get b (g ∷ fs) zero f h e = let same : g ≡ f = cc in subst (λ x. HasFormula b x) same h.0
 HasFormulas-get b (g ∷ fs) (suc i) f h e = HasFormulas-get b fs i f h.1 e
-
-pub HasFormulas-push : (b : Forms) (fs : List FormulaId) (f : FormulaId) → HasFormulas b fs → HasFormula b f → HasFormulas b (fs ++ f ∷ [])
-HasFormulas-push b [] f h l = (l, tt)
-HasFormulas-push b (g ∷ fs) f h l = (h.0, HasFormulas-push b fs f h.1 l)
 
 pub HasFormulas-take : (b : Forms) (k : ℕ) (fs : List FormulaId) → HasFormulas b fs → HasFormulas b (take k fs)
 HasFormulas-take b zero fs h = tt

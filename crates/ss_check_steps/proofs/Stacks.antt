@@ -8,7 +8,8 @@ use Rattle.ss_terms.specs.declared.forms.FormulaId.{FormulaId}
 use Rattle.ss_terms.specs.Forms.{Forms, formula_at, formulas_at, HasFormula, HasFormulas, IsGrown}
 use Rattle.ss_terms.proofs.Grown.{HasFormula-grown, HasFormulas-grown, formulas_at-grown}
 use Rattle.ss_check_steps.specs.Stack.{cases_from, waiting_of, IsStack, state_of, AreCases}
-use Rattle.ss_check_steps.proofs.Numbers.{HasFormulas-take, HasFormulas-push}
+use Rattle.ss_check_steps.proofs.Numbers.{HasFormulas-take}
+use Rattle.ss_terms.proofs.Longer.{HasFormulas-push}
 
 pub push_more : (w w' old : List (ℕ × FormulaId)) (n : ℕ) (fs : List FormulaId) (i : ℕ) (d : FormulaId) → i < length fs → w' ≡ w ++ (n, get_or fs (length fs - 1 - i) d) ∷ [] →
     reverse w ≡ map (λ f. (n, f)) (drop (length fs - i) fs) ++ reverse old → reverse w' ≡ map (λ f. (n, f)) (drop (length fs - (i + 1)) fs) ++ reverse old

@@ -5,7 +5,7 @@ ghost use Rattle.ss_logic.specs.Equal.{same_term};
 ghost use Rattle.ss_logic.specs.Shapes.{when, equal};
 ghost use Rattle.ss_logic_means.specs.Steps.{part_of, walk, is_congruent, is_swapped};
 ghost use Rattle.ss_terms.specs.Forms.{formula_at, formulas_at, term_at, HasTerm, HasFormula, HasFormulas, IsGrown};
-ghost use Rattle.ss_check_steps.specs.Numbered.{IsNumberOf};
+ghost use Rattle.ss_terms.specs.Numbered.{IsNumberOf};
 
 use crate::reads::{is_congruent_at, is_swapped_at, known_at, part_at, walk_at};
 use ss_terms::{Arguments, Bank, Formula, FormulaId, Predicate, TermId};

@@ -2,18 +2,19 @@
 
 ghost use Rattle.std.specs.Prelude.{◌≡◌, [], Some, None, true, false, ◌&&◌, not};
 ghost use Rattle.ss_logic.specs.Formulas as logic;
-ghost use Rattle.ss_logic.specs.Shapes.{literal_of};
 ghost use Rattle.ss_logic_means.specs.Steps.{is_literal, is_quantified, is_cut, is_value, is_absurd, is_false_bound, good_store};
 ghost use Rattle.ss_terms.specs.Forms.{formula_at, term_at, HasTerm, HasFormula};
-ghost use Rattle.ss_check_steps.specs.Numbered.{IsTermOf, AreSidesOf, sides_of};
+ghost use Rattle.ss_terms.specs.Numbered.{IsTermOf, ArePartsOf};
+ghost use Rattle.ss_check_steps.specs.Numbered.{sides_of};
 
+use ss_rules_basic::{literal, one, two};
 use ss_terms::{Bank, Formula, FormulaId, Predicate, Symbol, Term, TermId};
 use ss_terms_puts::is_value;
 
 /// The sides of an equality.
 pub(crate) fn sides(bank: &Bank, f: FormulaId) -> Option<(TermId, TermId)>
     requires { HasFormula bank.now f }
-    ensures { AreSidesOf bank.now result (sides_of (formula_at bank.now f)) }
+    ensures { ArePartsOf bank.now result (sides_of (formula_at bank.now f)) }
 {
     match bank.formula_node(f) {
         Formula::Literal {
@@ -21,16 +22,6 @@ pub(crate) fn sides(bank: &Bank, f: FormulaId) -> Option<(TermId, TermId)>
             predicate: Predicate::Equal,
             arguments,
         } => two(arguments),
-        _ => None,
-    }
-}
-
-/// The two terms, where there are so many.
-fn two(ts: &[TermId]) -> Option<(TermId, TermId)>
-    ensures { result ≡ two_of ts.now }
-{
-    match ts {
-        [x, y] => Some((*x, *y)),
         _ => None,
     }
 }
@@ -71,38 +62,13 @@ pub(crate) fn is_cut_at(bank: &Bank, f: FormulaId) -> bool
     }
 }
 
-ghost use Rattle.ss_logic.specs.Terms.{App, Number};
-ghost use Rattle.ss_check_steps.specs.Numbered.{one_of, two_of};
-
-/// The number that a literal is.
-fn number_at(bank: &Bank, t: TermId) -> Option<i128>
-    requires { HasTerm bank.now t }
-    ensures { result ≡ literal_of (term_at bank.now t) }
-{
-    match bank.term_node(t) {
-        Term::App(Symbol::Number(n), arguments) => number_alone(bank, *n, arguments),
-        _ => None,
-    }
-}
-
-/// The number, where it has no arguments.
-fn number_alone(bank: &Bank, n: i128, ts: &[TermId]) -> Option<i128>
-    ensures { result ≡ literal_of (App (Number n) (terms_from (terms_at bank.now ts.now))) }
-{
-    let _ = bank;
-    match ts {
-        [] => Some(n),
-        _ => None,
-    }
-}
-
 /// Whether the first is 0 and the second a number below it.
 fn is_false_bound_at(bank: &Bank, x: TermId, y: TermId) -> bool
     requires left { HasTerm bank.now x }
     requires right { HasTerm bank.now y }
     ensures { result ≡ is_false_bound (term_at bank.now x) (term_at bank.now y) }
 {
-    match (number_at(bank, x), number_at(bank, y)) {
+    match (literal(bank, x), literal(bank, y)) {
         (Some(a), Some(b)) => a == 0 && b < 0,
         _ => false,
     }
@@ -161,16 +127,6 @@ pub fn good_store_at(bank: &Bank, f: FormulaId) -> Option<TermId>
             predicate: Predicate::Good,
             arguments,
         } => one(arguments),
-        _ => None,
-    }
-}
-
-/// The term, where there is one alone.
-fn one(ts: &[TermId]) -> Option<TermId>
-    ensures { result ≡ one_of ts.now }
-{
-    match ts {
-        [x] => Some(*x),
         _ => None,
     }
 }

@@ -6,7 +6,7 @@ ghost use Rattle.ss_logic_means.specs.Steps.{part_of, other_side, walk, joins, i
 ghost use Rattle.ss_terms.specs.Forms.{formula_at, formulas_at, term_at, terms_at, HasTerm, HasTerms, HasFormula, HasFormulas, Forms, symbol_of, predicate_of};
 ghost use Rattle.ss_logic.specs.Terms.{App, terms_from};
 ghost use Rattle.ss_logic.specs.Equal.{same_symbol, same_predicate};
-ghost use Rattle.ss_check_steps.specs.Numbered.{IsNumberOf, IsTermOf};
+ghost use Rattle.ss_terms.specs.Numbered.{IsNumberOf, IsTermOf};
 
 use crate::literals::{is_absurd_at, is_literal_at, is_quantified_at, sides};
 use ss_terms::{Bank, Formula, FormulaId, Predicate, Symbol, Term, TermId};

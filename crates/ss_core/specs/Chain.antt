@@ -20,6 +20,10 @@ table_of (Some c) = c.table
 abbrev pub table : List ClassTree → ℕ → List EntryTree
 table cs t = table_of (declared cs t)
 
+-- the names of methods of a table, in order
+abbrev pub names_of : List EntryTree → List (List ℕ)
+names_of es = map (λ (e : EntryTree). e.name) es
+
 -- `object`, 0, is above each class that isn't declared
 abbrev pub above_of : Option ClassTree → ℕ
 above_of None = 0

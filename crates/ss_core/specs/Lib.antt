@@ -1,5 +1,6 @@
 pub mod Tree
 pub mod View
+pub mod Parts
 pub mod Chain
 pub mod Marks
 pub mod Kinds

@@ -38,8 +38,8 @@ pub struct BodyFlags {
     pub wrapper: bool,
 }
 
-/// A method or a constructor. Its locals are numbered from 0: first `this`, where it isn't static, then the parameters, the
-/// other locals, and last the result, where there is one.
+/// A method or a constructor. Its locals are numbered from 0, in order: `this` where it isn't static, parameters, other locals,
+/// and the result where there is one.
 #[derive(Drop)]
 pub struct Body {
     pub class: ClassId,

@@ -71,16 +71,16 @@ pub enum DefaultCondition {
     ConsistentArgument(usize),
     /// The argument is null, or at its full level.
     FullArgument(usize),
-    /// The argument is null, or its owner is a group, each member of that group is at its full level, and where `this` is told
-    /// apart it isn't a member.
+    /// The argument is null, or its owner is a group whose members are all at their full levels. Where it is told apart from
+    /// `this`, that isn't one of them.
     Captured {
         argument: usize,
         apart_from_this: bool,
     },
 }
 
-/// An expression. A local is named by its number: first `this` where there is one, then the parameters, the locals, the
-/// result, and past them the bound names of quantifiers, from the outermost inwards.
+/// An expression. A local is named by its number in the body. Past the numbers of the body stand those of the bound names of
+/// quantifiers, from the outermost inwards.
 #[cycle(expr)]
 #[derive(Drop)]
 pub enum Expr {

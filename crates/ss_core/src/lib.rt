@@ -1,5 +1,5 @@
-//! Core programs of the whole language: classes with their fields, invariants and tables of methods, and bodies in which names
-//! are numbers and every implied step is written out.
+//! Core programs of the whole language: classes with their fields, invariants and tables of methods, and bodies. In these names
+//! are numbers, and every implied step is written out.
 #![tactic(auto)]
 
 mod body;
@@ -20,4 +20,4 @@ pub use expr::{DefaultCondition, Expr, Link, Operator, OwnerTest, Quantifier, St
 pub use names::{BodyId, ClassId, FieldId, FrontStop, Kind, Mark, Place, Ty};
 pub use rules::Rule;
 pub use stmt::{Callee, Exposed, Loop, Stmt};
-pub use types::is_non_null;
+pub use types::{is_class_type, is_non_null, is_non_null_type, nullable};

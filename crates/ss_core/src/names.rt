@@ -12,8 +12,8 @@ pub struct Place {
     pub column: u32,
 }
 
-/// The number of a class: 0 is `object`, 1 to 3 are the arrays `int[]`, `bool[]` and `object[]`, and of the
-/// declared class `k`, from 0, the number is `4 + 2 k`, and that of its array `5 + 2 k`.
+/// The number of a class: 0 is `object`, and 1 to 3 are the arrays `int[]`, `bool[]` and `object[]`. The declared class `k`,
+/// counted from 0, has the number `4 + 2 k`, and its array `5 + 2 k`.
 #[derive(Clone, Copy, Debug, PartialEq, Eq)]
 pub struct ClassId(pub u16);
 

@@ -6,8 +6,8 @@ use crate::names::{BodyId, ClassId, FieldId, Mark, Place};
 /// What a call enters.
 #[derive(Drop)]
 pub enum Callee {
-    /// `e.M(..)`: the receiver, its static class, and the place of the method in that class's table, which is its place in
-    /// the table of the receiver's own class too.
+    /// `e.M(..)`: the receiver, its static class, and the place of the method in that class's table. In the table of the
+    /// receiver's own class the method has the same place.
     Dispatched(Expr, ClassId, usize),
     /// `C.M(..)`
     Static(BodyId),

@@ -12,7 +12,7 @@ use Rattle.ss_ast.specs.Programs.{ClassTree, ProgramTree}
 use Rattle.ss_grammar.specs.declared.fault.Fault.{Fault}
 use Rattle.ss_grammar.specs.declared.fault.Fault.TheVariants.{Expected, TooDeep}
 use Rattle.ss_grammar.specs.Language.{Starts, Ends, Accepts, Refuses, IsDeep, Finds}
-use Rattle.ss_grammar.specs.Reading.{◌>>=◌, take, after, seen, seen_as}
+use Rattle.ss_grammar.specs.Reading.{◌>>=◌, take, after, seen, seen_as, ahead}
 use Rattle.ss_grammar.proofs.Facts.{Cut, same, longer, shorter, cut}
 use Rattle.ss_grammar.proofs.Answers.{found_whole}
 use Rattle.ss_ast.specs.Tokens.{tok}
@@ -23,7 +23,6 @@ use Rattle.ss_parser_expressions.specs.Answer.{first_place, rule_of}
 use Rattle.ss_parser_expressions.proofs.Suffix.{behind_is}
 use Rattle.ss_grammar_expressions.specs.Parser.{give}
 use Rattle.ss_grammar_expressions.proofs.Sets.{code, disjoint_in}
-use Rattle.ss_grammar_programs.specs.Again.{ahead}
 use Rattle.ss_grammar_programs.specs.Heads.{the_end}
 use Rattle.ss_grammar_programs.specs.Grammar.{Declarations}
 use Rattle.ss_grammar_programs.specs.Parser.{declarations, program}

@@ -6,12 +6,12 @@ use Rattle.ss_ast.specs.declared.token.Token.{Token}
 use Rattle.ss_ast.specs.declared.expr.Postfix.{Postfix}
 use Rattle.ss_ast.specs.Expressions.{ExprTree, grouped}
 use Rattle.ss_ast.specs.Programs.{ModifiedTree, OneOf}
-use Rattle.ss_grammar.specs.Reading.{◌>>=◌}
+use Rattle.ss_grammar.specs.Reading.{◌>>=◌, ahead}
 use Rattle.ss_grammar_expressions.specs.Heads.{Piece, is, pieces, postfix_head}
 use Rattle.ss_ast.specs.Parts.{postfix_behind}
 use Rattle.ss_ast.proofs.Grouping.{grouped_push}
 use Rattle.ss_parser_expressions.proofs.Loops.{pieces_less}
-use Rattle.ss_grammar_programs.specs.Again.{ahead, another}
+use Rattle.ss_grammar_programs.specs.Again.{another}
 use Rattle.ss_grammar_programs.specs.Grammar.{Path, Whole, path_goes, stepped, modified}
 use Rattle.ss_grammar_programs.specs.Parser.{step, steps, modified_from}
 use Rattle.ss_grammar_programs.proofs.Rounds.{Rounds, rounds_on, rounds_end, rounds_last}

@@ -11,9 +11,9 @@ use Rattle.ss_ast.specs.declared.token.Token.{Token}
 use Rattle.ss_ast.specs.declared.class.Program.{Program}
 use Rattle.ss_ast.specs.Programs.{ClassTree, ProgramTree, program_tree}
 use Rattle.ss_grammar.specs.Language.{Starts, Ends, IsDeep}
+use Rattle.ss_grammar.specs.Reading.{ahead}
 use Rattle.ss_grammar_expressions.specs.Heads.{Piece, is, the, pieces}
 use Rattle.ss_parser_expressions.specs.Answer.{first_place, most_nested}
-use Rattle.ss_grammar_programs.specs.Again.{ahead}
 use Rattle.ss_grammar_programs.specs.Grammar as grammar
 
 -- a whole program that nests at most d deep

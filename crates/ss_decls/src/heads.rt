@@ -2,9 +2,8 @@
 
 ghost use Rattle.std.specs.Prelude.{◌≡◌, ◌<◌, length, option_map, IfSome};
 ghost use Rattle.ss_ast.specs.Tokens.{kind_of};
-ghost use Rattle.ss_grammar.specs.Reading.{seen};
+ghost use Rattle.ss_grammar.specs.Reading.{seen, ahead};
 ghost use Rattle.ss_grammar_expressions.specs.Heads.{pieces};
-ghost use Rattle.ss_grammar_programs.specs.Again.{ahead};
 ghost use Rattle.ss_grammar_programs.specs.Heads.{access_word, an_access, member_word_of, member_word, class_kind, begins_class, begins_kind, begins_member, type_follows, fields_follow};
 
 use ss_ast::{Modifier, ModifierWord, Symbol, Token, TokenKind, Word};

@@ -19,11 +19,11 @@ use Rattle.ss_delayed_rules.specs.Escapes.{Use, ForFields, NotAtAll, may_read, u
 use Rattle.ss_typed.specs.Parts.{link_behind, step_behind}
 use Rattle.ss_typed.proofs.Grouping.{chain_is, link_shape, path_is, step_shape, quantified_is}
 use Rattle.ss_typed.proofs.OwnFields.{no_this_behind}
-use Rattle.ss_delayed.specs.Parts.{nowhere, nothing, link_uses, links_uses, step_uses, steps_uses, is_field, is_allowed_read, unless}
+use Rattle.ss_delayed.specs.Parts.{no_place, nothing, link_uses, links_uses, step_uses, steps_uses, is_field, is_allowed_read, unless}
 
 -- ---- chains
 
-link_added : (u : Use) (s : TypedLink-F ExprTree Behind Behind) (p : Place) (t : ExprTree) → uses u (link_step s p t) ≡ uses u t ++ uses u (link_step s nowhere nothing)
+link_added : (u : Use) (s : TypedLink-F ExprTree Behind Behind) (p : Place) (t : ExprTree) → uses u (link_step s p t) ≡ uses u t ++ uses u (link_step s no_place nothing)
 link_added u (shape.Operation op e) p t = refl
 link_added u (shape.Is c) p t = sym (append-nil (uses u t))
 link_added u (shape.As c) p t = sym (append-nil (uses u t))
@@ -31,7 +31,7 @@ link_added u (shape.As c) p t = sym (append-nil (uses u t))
 uses_link : (u : Use) (l : TypedLink) (p : Place) (t : ExprTree) → uses u (link_behind l p t) ≡ uses u t ++ link_uses u l
 uses_link u l p t =
     let s = link_shape l in
-    ap (λ (b : Behind). uses u (b p t)) s.is ∙ link_added u s.shape p t ∙ sym (ap (λ (b : Behind). uses u t ++ uses u (b nowhere nothing)) s.is)
+    ap (λ (b : Behind). uses u (b p t)) s.is ∙ link_added u s.shape p t ∙ sym (ap (λ (b : Behind). uses u t ++ uses u (b no_place nothing)) s.is)
 
 uses_links : (u : Use) (p : Place) (t : ExprTree) (ls : List TypedLink) → uses u (grouped p t (map link_behind ls)) ≡ uses u t ++ links_uses u ls
 uses_links u p t [] = sym (append-nil (uses u t))
@@ -58,20 +58,20 @@ field_adds_none ForFields p f ty = refl
 field_adds_none NotAtAll p f ty = refl
 
 step_added : (u : Use) (s : TypedStep-F ExprTree Behind Behind) (p : Place) (t : ExprTree)
-    → uses u (step_step s p t) ≡ unless (is_field (step_step s nowhere nothing) && (may_read u && is_this t)) (uses u t) ++ uses u (step_step s nowhere nothing)
+    → uses u (step_step s p t) ≡ unless (is_field (step_step s no_place nothing) && (may_read u && is_this t)) (uses u t) ++ uses u (step_step s no_place nothing)
 step_added u (shape.Field f ty) p t =
     let before = unless (may_read u && is_this t) (uses u t) in
-    sym (ap (λ z. before ++ z) (field_adds_none u nowhere f.0 ty) ∙ append-nil before)
+    sym (ap (λ z. before ++ z) (field_adds_none u no_place f.0 ty) ∙ append-nil before)
 step_added u (shape.Element e) p t = refl
 step_added u shape.Length p t = sym (append-nil (uses u t))
 step_added u (shape.Call m ty es) p t = refl
 
 uses_step : (u : Use) (s : TypedStep) (p : Place) (t : ExprTree)
-    → uses u (step_behind s p t) ≡ unless (is_field (step_behind s nowhere nothing) && (may_read u && is_this t)) (uses u t) ++ step_uses u s
+    → uses u (step_behind s p t) ≡ unless (is_field (step_behind s no_place nothing) && (may_read u && is_this t)) (uses u t) ++ step_uses u s
 uses_step u s p t =
     let made = step_shape s in
     ap (λ (b : Behind). uses u (b p t)) made.is ∙ step_added u made.shape p t
-    ∙ sym (ap (λ (b : Behind). unless (is_field (b nowhere nothing) && (may_read u && is_this t)) (uses u t) ++ uses u (b nowhere nothing)) made.is)
+    ∙ sym (ap (λ (b : Behind). unless (is_field (b no_place nothing) && (may_read u && is_this t)) (uses u t) ++ uses u (b no_place nothing)) made.is)
 
 never : (a b : Bool) → (a && (b && false)) ≡ false
 never true true = refl
@@ -86,7 +86,7 @@ uses_steps : (u : Use) (p : Place) (t : ExprTree) (ss : List TypedStep) → is_t
 uses_steps u p t [] n = sym (append-nil (uses u t))
 uses_steps u p t (s ∷ ss) n =
     uses_steps u p (step_behind s p t) ss (no_this_behind s p t)
-    ∙ ap (λ x. x ++ steps_uses u ss) (uses_step u s p t ∙ ap (λ x. x ++ step_uses u s) (not_this_read u (is_field (step_behind s nowhere nothing)) t n))
+    ∙ ap (λ x. x ++ steps_uses u ss) (uses_step u s p t ∙ ap (λ x. x ++ step_uses u s) (not_this_read u (is_field (step_behind s no_place nothing)) t n))
     ∙ append_assoc (uses u t) (step_uses u s) (steps_uses u ss)
 
 uses_path : (u : Use) (p : Place) (t : ExprTree) (ss : List TypedStep) → uses u (grouped p t (map step_behind ss)) ≡ unless (is_allowed_read u t ss) (uses u t) ++ steps_uses u ss

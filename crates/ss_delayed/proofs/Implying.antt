@@ -6,11 +6,11 @@ use Rattle.ss_core.specs.declared.names.Place.{Place}
 use Rattle.ss_core.specs.declared.names.BodyId.{BodyId}
 use Rattle.ss_faults.specs.declared.Fault.{Fault}
 use Rattle.ss_core.specs.Tree as core
-use Rattle.ss_core.specs.Chain.{declared, above_of}
+use Rattle.ss_core.specs.Chain.{declared, above_of, fields_of}
 use Rattle.ss_typed.specs.declared.program.TypedClass.{TypedClass}
 use Rattle.ss_typed.specs.Tree.{TypedTree}
 use Rattle.ss_typed.specs.View.{members}
-use Rattle.ss_paths.specs.Fields.{fields_in, own_fields, fields_of_members}
+use Rattle.ss_paths.specs.Fields.{own_fields, fields_of_members}
 use Rattle.ss_typed.specs.Lookups.{class_place, constructor_of}
 use Rattle.ss_paths.specs.Sets.{Set}
 use Rattle.ss_paths.specs.Assigned.{assigned_by_initializers}
@@ -35,7 +35,7 @@ declared_is cs k = rw (at_least_four k, eq-eqb ((4 + 2 * k) % 2) 0 (even k)) (ap
 
 pub empty_is : (p : TypedTree) (k : ℕ) (q : Place) → empty_faults p k q ≡ unassigned_faults p (4 + 2 * k) q (Some (assigned_by_initializers p (4 + 2 * k))) ++ base_faults p (4 + 2 * k) q
 empty_is p k q =
-    ap (λ (j : ℕ). (if are_assigned_from (started (fields_of_members (slice_get p.members j))) 0 (fields_in (slice_get p.classes j)) then [] else at unassigned q ∷ []) ++ above_faults (slice_get p.classes k)) (sym (place_is k))
+    ap (λ (j : ℕ). (if are_assigned_from (started (fields_of_members (slice_get p.members j))) 0 (fields_of (slice_get p.classes j)) then [] else at unassigned q ∷ []) ++ above_faults (slice_get p.classes k)) (sym (place_is k))
     ∙ ap (λ (s : Set). (if are_assigned_from s 0 (own_fields p (4 + 2 * k)) then [] else at unassigned q ∷ []) ++ above_faults (slice_get p.classes k)) (sym (initializers_are p (4 + 2 * k)))
     ∙ ap (λ (o : Option core.ClassTree). unassigned_faults p (4 + 2 * k) q (Some (assigned_by_initializers p (4 + 2 * k))) ++ above_faults o) (sym (declared_is p.classes k))
   where

@@ -1,15 +1,17 @@
 -- Where `this` stands in the parts of chains and paths.
 use Rattle.std.specs.Prelude.{List, [], ◌∷◌, ◌++◌, Bool, true, false, ◌&&◌, if◌then◌else◌}
 use Rattle.ss_core.specs.declared.names.Place.{Place}
+pub use Rattle.ss_core.specs.Parts.{no_place}
 use Rattle.ss_ast.specs.declared.stmt.AssignOperator.{AssignOperator}
 use Rattle.ss_ast.specs.declared.stmt.AssignOperator.TheVariants as assign
 use Rattle.ss_typed.specs.declared.expr.TypedLink.{TypedLink}
 use Rattle.ss_typed.specs.declared.expr.TypedStep.{TypedStep}
-use Rattle.ss_typed.specs.Tree.{ExprTree, NullOf, FieldOf}
+use Rattle.ss_typed.specs.Tree.{ExprTree, FieldOf}
 use Rattle.ss_typed.specs.Shapes.{is_this}
 use Rattle.ss_delayed_rules.specs.Escapes as escapes
 use Rattle.ss_delayed_rules.specs.Escapes.{may_read, uses, uses_left}
 use Rattle.ss_typed.specs.Parts.{link_behind, step_behind}
+pub use Rattle.ss_typed.specs.Parts.{nothing}
 use Rattle.ss_delayed.specs.declared.escapes.Use.{Use}
 use Rattle.ss_delayed.specs.declared.escapes.Use.TheVariants as allowed
 
@@ -17,19 +19,12 @@ abbrev pub use_of : Use → escapes.Use
 use_of allowed.ForFields = escapes.ForFields
 use_of allowed.NotAtAll = escapes.NotAtAll
 
--- an expression in which `this` doesn't stand
-abbrev pub nowhere : Place
-nowhere = record { line = 0; column = 0 }
-
-abbrev pub nothing : ExprTree
-nothing = NullOf nowhere
-
 -- what a link or a step adds to the places in what stands before it
 abbrev pub link_uses : escapes.Use → TypedLink → List Place
-link_uses u l = uses u (link_behind l nowhere nothing)
+link_uses u l = uses u (link_behind l no_place nothing)
 
 abbrev pub step_uses : escapes.Use → TypedStep → List Place
-step_uses u s = uses u (step_behind s nowhere nothing)
+step_uses u s = uses u (step_behind s no_place nothing)
 
 abbrev pub links_uses : escapes.Use → List TypedLink → List Place
 links_uses u [] = []
@@ -47,7 +42,7 @@ is_field e = false
 
 abbrev pub starts_with_field : List TypedStep → Bool
 starts_with_field [] = false
-starts_with_field (s ∷ ss) = is_field (step_behind s nowhere nothing)
+starts_with_field (s ∷ ss) = is_field (step_behind s no_place nothing)
 
 -- what a path begins with is `this`, of which it reads a field where that is allowed
 abbrev pub is_allowed_read : escapes.Use → ExprTree → List TypedStep → Bool

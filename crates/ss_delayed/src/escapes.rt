@@ -5,7 +5,7 @@ ghost use Rattle.ss_typed.specs.Tree.{arguments};
 ghost use Rattle.ss_typed.specs.View.{expr};
 ghost use Rattle.ss_delayed_rules.specs.Escapes.{may_read, uses, uses_each};
 ghost use Rattle.ss_typed.specs.Parts.{step_behind};
-ghost use Rattle.ss_delayed.specs.Parts.{use_of, nowhere, nothing, link_uses, links_uses, step_uses, steps_uses, is_field, starts_with_field, is_allowed_read, unless};
+ghost use Rattle.ss_delayed.specs.Parts.{use_of, no_place, nothing, link_uses, links_uses, step_uses, steps_uses, is_field, starts_with_field, is_allowed_read, unless};
 
 use ss_core::Place;
 use ss_typed::{TypedExpr, TypedLink, TypedStep, is_this};
@@ -30,7 +30,7 @@ fn may_read(allowed: Use) -> bool
 }
 
 fn is_field(step: &TypedStep) -> bool
-    ensures { result ≡ is_field (step_behind step.now nowhere nothing) }
+    ensures { result ≡ is_field (step_behind step.now no_place nothing) }
 {
     match step {
         TypedStep::Field(..) => true,

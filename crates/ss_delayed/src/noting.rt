@@ -3,9 +3,10 @@
 ghost use Rattle.std.specs.Prelude.{◌≡◌, ◌++◌, [], ◌∷◌, ◌||◌, not, OnOk, map, option_map, if◌then◌else◌};
 ghost use Rattle.ss_core.specs.Rules.{rule_number};
 ghost use Rattle.ss_core.specs.View.{class_of, field_of};
+ghost use Rattle.ss_core.specs.Chain.{fields_of};
 ghost use Rattle.ss_typed.specs.View.{typed};
 ghost use Rattle.ss_bit_set.specs.Marked.{marked};
-ghost use Rattle.ss_paths.specs.Fields.{is_non_null, fields_in};
+ghost use Rattle.ss_paths.specs.Fields.{is_non_null};
 ghost use Rattle.ss_delayed_rules.specs.Constructors.{unassigned, base_not_delayed, at, escapes, are_assigned_from, are_assigned, unassigned_faults};
 ghost use Rattle.ss_delayed.specs.Walked.{known_of};
 
@@ -74,7 +75,7 @@ fn are_set(own: &BitSet, fields: &[Field]) -> bool
 
 // Whether each of the fields that a class declares has.
 fn are_all_set(own: &BitSet, class: Option<&Class>) -> bool
-    ensures { result ≡ are_assigned_from (marked own.now) 0 (fields_in (option_map (λ c. class_of c.now) class.entry)) }
+    ensures { result ≡ are_assigned_from (marked own.now) 0 (fields_of (option_map (λ c. class_of c.now) class.entry)) }
 {
     match class {
         Some(class) => are_set(own, &class.fields),
@@ -119,7 +120,7 @@ pub fn note_unset(
     found: &mut Vec<Fault>,
 ) -> Result<(), AllocError>
     ensures { OnOk result (found.new.items ≡ found.old.items
-        ++ (if are_assigned_from (marked own.now) 0 (fields_in (option_map (λ c. class_of c.now) class.entry)) then [] else at unassigned place ∷ [])) }
+        ++ (if are_assigned_from (marked own.now) 0 (fields_of (option_map (λ c. class_of c.now) class.entry)) then [] else at unassigned place ∷ [])) }
 {
     note_unless(are_all_set(own, class), Rule::Unassigned, place, found)?;
     Ok(())

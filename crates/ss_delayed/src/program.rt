@@ -1,6 +1,6 @@
 // The faults of construction of a whole program, and the first of them.
 
-ghost use Rattle.std.specs.Prelude.{◌≡◌, ◌++◌, ◌+◌, ◌*◌, OnOk, IfOk, map, option_map, slice_get};
+ghost use Rattle.std.specs.Prelude.{◌≡◌, ◌++◌, ◌+◌, ◌*◌, OnOk, IfOk, map, option_map};
 ghost use Rattle.ss_faults.specs.First.{first_fault, Answers};
 ghost use Rattle.ss_core.specs.View.{class_of};
 ghost use Rattle.ss_core.specs.Chain.{above_of};
@@ -17,7 +17,7 @@ use crate::statements::find_if;
 use ss_core::{Class, ClassId, FrontStop, Place};
 use ss_faults::{Fault, answer, first_fault};
 use ss_paths_assigned::{Fields, started_in};
-use ss_typed::{Typed, TypedBody, TypedClass, TypedExpr, TypedField};
+use ss_typed::{Typed, TypedBody, TypedClass, TypedExpr, TypedField, class_at, members_in};
 use std::alloc::{AllocError, Global};
 
 // ---- initializers
@@ -61,18 +61,6 @@ fn above_of(class: Option<&Class>) -> ClassId
     }
 }
 
-fn entry_at(program: &Typed, place: usize) -> Option<&Class>
-    ensures { option_map (λ c. class_of c.now) result ≡ slice_get (typed program.now).classes place }
-{
-    program.classes.list.get(place)
-}
-
-fn members_in(program: &Typed, place: usize) -> Option<&TypedClass>
-    ensures { option_map (λ m. members m.now) result ≡ slice_get (typed program.now).members place }
-{
-    program.members.get(place)
-}
-
 // The faults of an implied constructor of the class at this place of the list, whose name stands at `name`.
 fn check_empty(
     alloc: Global,
@@ -84,7 +72,7 @@ fn check_empty(
     ensures { OnOk result (found.new.items ≡ found.old.items ++ empty_faults (typed program.now) place name) }
 {
     let started = started_in(alloc, members_in(program, place))?;
-    let class = entry_at(program, place);
+    let class = class_at(program, place);
     note_unset(&started, class, name, found)?;
     check_above(program, above_of(class), name, found)?;
     Ok(())

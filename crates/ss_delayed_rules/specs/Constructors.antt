@@ -5,6 +5,7 @@ use Rattle.ss_core.specs.declared.names.Place.{Place}
 use Rattle.ss_core.specs.declared.rules.Rule.TheVariants as rule
 use Rattle.ss_core.specs.Rules.{rule_number}
 use Rattle.ss_faults.specs.declared.Fault.{Fault}
+pub use Rattle.ss_faults.specs.First.{at}
 use Rattle.ss_core.specs.Tree as core
 use Rattle.ss_core.specs.Chain.{above}
 use Rattle.ss_typed.specs.Tree.{ExprTree, Arguments, NoMore, DeclaratorTree, SimpleTree, BaseTree, BodyTree, TypedTree}
@@ -27,9 +28,6 @@ this_escapes = rule_number rule.ThisEscapes
 
 abbrev pub base_not_delayed : ℕ
 base_not_delayed = rule_number rule.BaseNotDelayed
-
-abbrev pub at : ℕ → Place → Fault
-at n p = record { rule = n; place = p }
 
 abbrev pub escapes : List Place → List Fault
 escapes ps = map (at this_escapes) ps

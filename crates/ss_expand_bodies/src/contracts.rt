@@ -87,7 +87,7 @@ fn add_written(
     }
 }
 
-// The clause of the first declaration of a method, where it has one, and the class whose body is under it.
+/// The clause of the first declaration of a method, where it has one, and the class whose body is under it.
 #[derive(Clone, Copy)]
 struct Clause<'a> {
     class: ClassId,

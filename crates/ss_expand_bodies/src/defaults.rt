@@ -6,19 +6,9 @@ ghost use Rattle.ss_typed.specs.View as typed;
 ghost use Rattle.ss_expand_rules.specs.Contracts as contracts;
 ghost use Rattle.ss_expand_bodies.specs.Conditions.{defaults_of};
 
-use ss_core::{ClassId, DefaultCondition, Expr, Place, Ty};
+use ss_core::{ClassId, DefaultCondition, Expr, Place, is_class_type};
 use ss_typed::{TypedBody, TypedParam};
 use std::alloc::{AllocError, Global};
-
-// Whether it is a type of references.
-fn is_reference(ty: Ty) -> bool
-    ensures { result ≡ contracts.is_reference ty }
-{
-    match ty {
-        Ty::Ref { .. } => true,
-        Ty::Int | Ty::Bool | Ty::Null => false,
-    }
-}
 
 /// The number of the first parameter.
 pub fn first_param(body: &TypedBody) -> usize
@@ -76,7 +66,7 @@ fn add_of_param(
 ) -> Result<(), AllocError>
     ensures { OnOk result (defaults_of conditions.new ≡ defaults_of conditions.old ++ contracts.of_param (typed.body body.now) x (typed.param param.now)) }
 {
-    if is_reference(param.ty) && !body.flags.no_default_contract {
+    if is_class_type(param.ty) && !body.flags.no_default_contract {
         conditions.push(of_argument(body, x))?;
     }
     if param.captured {

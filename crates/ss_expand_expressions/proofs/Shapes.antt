@@ -10,6 +10,7 @@ use Rattle.ss_core.specs.declared.expr.Expr.TheVariants as core_variant
 use Rattle.ss_core.specs.declared.expr.Expr.TheOpen as core_shape
 use Rattle.ss_core.specs.Tree as tree
 use Rattle.ss_core.specs.View as core
+use Rattle.ss_core.specs.Parts as core_parts
 use Rattle.ss_typed.specs.declared.expr.TypedLink.{TypedLink}
 use Rattle.ss_typed.specs.declared.expr.TypedStep.{TypedStep}
 use Rattle.ss_typed.specs.declared.expr.TypedExpr.TheOpen as shape
@@ -19,14 +20,13 @@ use Rattle.ss_typed.specs.View.{Behind, link_step, step_step}
 use Rattle.ss_typed.specs.Parts.{link_behind, linked, step_behind, stepped}
 use Rattle.ss_typed.proofs.Grouping.{link_shape, step_shape, linked_push, stepped_push}
 use Rattle.ss_expand_rules.specs.Calls.{has_call}
-use Rattle.ss_expand_expressions.specs.Views.{core_link_behind, core_step_behind, core_linked, core_stepped}
 use Rattle.std.proofs.lemmas.List.{map-append}
 use Rattle.ss_ast.proofs.Loops.{take_item}
 
-pub core_chain_is : (p : Place) (first : Box Expr Global) (links : Vec Link Global) → core.expr (core_variant.Chain p first links) ≡ core_linked p (core.expr first.value) links.items
+pub core_chain_is : (p : Place) (first : Box Expr Global) (links : Vec Link Global) → core.expr (core_variant.Chain p first links) ≡ core_parts.chain_front p (core.expr first.value) links.items
 core_chain_is p first links = ap core.expr (sym (core_variant.rolls-Chain p first links)) ∙ core_fold.fold-roll-Expr tree.ExprTree core.Behind core.Behind core.expr_step core.link_step core.step_step (core_shape.Chain p first links)
 
-pub core_path_is : (p : Place) (first : Box Expr Global) (steps : Vec Step Global) → core.expr (core_variant.Path p first steps) ≡ core_stepped p (core.expr first.value) steps.items
+pub core_path_is : (p : Place) (first : Box Expr Global) (steps : Vec Step Global) → core.expr (core_variant.Path p first steps) ≡ core_parts.path_front p (core.expr first.value) steps.items
 core_path_is p first steps = ap core.expr (sym (core_variant.rolls-Path p first steps)) ∙ core_fold.fold-roll-Expr tree.ExprTree core.Behind core.Behind core.expr_step core.link_step core.step_step (core_shape.Path p first steps)
 
 -- ---- one more at the end
@@ -35,11 +35,11 @@ pub core_grouped_push : (p : Place) (e : tree.ExprTree) (bs : List core.Behind) 
 core_grouped_push p e [] b = refl
 core_grouped_push p e (x ∷ bs) b = core_grouped_push p (x p e) bs b
 
-pub core_linked_push : (p : Place) (e : tree.ExprTree) (ls : List Link) (l : Link) → core_linked p e (ls ++ l ∷ []) ≡ core_link_behind l p (core_linked p e ls)
-core_linked_push p e ls l = ap (λ bs. core.grouped p e bs) (map-append core_link_behind ls (l ∷ [])) ∙ core_grouped_push p e (map core_link_behind ls) (core_link_behind l)
+pub core_linked_push : (p : Place) (e : tree.ExprTree) (ls : List Link) (l : Link) → core_parts.chain_front p e (ls ++ l ∷ []) ≡ core_parts.link_behind l p (core_parts.chain_front p e ls)
+core_linked_push p e ls l = ap (λ bs. core.grouped p e bs) (map-append core_parts.link_behind ls (l ∷ [])) ∙ core_grouped_push p e (map core_parts.link_behind ls) (core_parts.link_behind l)
 
-pub core_stepped_push : (p : Place) (e : tree.ExprTree) (ls : List Step) (l : Step) → core_stepped p e (ls ++ l ∷ []) ≡ core_step_behind l p (core_stepped p e ls)
-core_stepped_push p e ls l = ap (λ bs. core.grouped p e bs) (map-append core_step_behind ls (l ∷ [])) ∙ core_grouped_push p e (map core_step_behind ls) (core_step_behind l)
+pub core_stepped_push : (p : Place) (e : tree.ExprTree) (ls : List Step) (l : Step) → core_parts.path_front p e (ls ++ l ∷ []) ≡ core_parts.step_behind l p (core_parts.path_front p e ls)
+core_stepped_push p e ls l = ap (λ bs. core.grouped p e bs) (map-append core_parts.step_behind ls (l ∷ [])) ∙ core_grouped_push p e (map core_parts.step_behind ls) (core_parts.step_behind l)
 
 -- the first links up to one more
 pub linked_next : (p : Place) (e : ExprTree) (ls : List TypedLink) (i : ℕ) (l : TypedLink) → i < length ls → l ≡ get_or ls i l → linked p e (take (suc i) ls) ≡ link_behind l p (linked p e (take i ls))

@@ -3,10 +3,11 @@
 ghost use Rattle.std.specs.Prelude.{◌≡◌, IfOk, option_map, string_bytes};
 ghost use Rattle.ss_core.specs.Tree as tree;
 ghost use Rattle.ss_core.specs.View as core;
+ghost use Rattle.ss_core.specs.Parts as core_parts;
 ghost use Rattle.ss_typed.specs.Tree.{ExprTree};
 ghost use Rattle.ss_typed.specs.View as typed;
 ghost use Rattle.ss_expand_rules.specs.Numbers as elab;
-ghost use Rattle.ss_expand_expressions.specs.Views.{numbers_of, core_link_behind, core_step_behind, core_linked, plain_step_behind, path_of};
+ghost use Rattle.ss_expand_expressions.specs.Views.{numbers_of, plain_step_behind, path_of};
 ghost use Rattle.ss_typed.specs.Parts.{link_behind, linked, step_behind, stepped};
 
 use crate::locals::Numbers;
@@ -124,7 +125,7 @@ fn plain_boxed(alloc: Global, numbers: &Numbers, e: &TypedExpr) -> Result<Box<Ex
 
 /// A chain with these links.
 pub fn whole_chain(place: Place, first: Box<Expr>, links: Vec<Link>) -> Expr
-    ensures { core.expr result ≡ core_linked place (core.expr first.value) links.items }
+    ensures { core.expr result ≡ core_parts.chain_front place (core.expr first.value) links.items }
 {
     Expr::Chain(place, first, links)
 }
@@ -137,7 +138,7 @@ pub fn plain_links(
     links: &[TypedLink],
 ) -> Result<Vec<Link>, AllocError>
     ensures { IfOk result (λ r. (p : Place) → (before : ExprTree)
-        → core_linked p (elab.plain (numbers_of numbers.now) before) r.items ≡ elab.plain (numbers_of numbers.now) (linked p before links.now)) }
+        → core_parts.chain_front p (elab.plain (numbers_of numbers.now) before) r.items ≡ elab.plain (numbers_of numbers.now) (linked p before links.now)) }
 {
     let mut list = Vec::new(alloc);
     for link in links {
@@ -149,7 +150,7 @@ pub fn plain_links(
 #[cycle(plain)]
 fn plain_link(alloc: Global, numbers: &Numbers, link: &TypedLink) -> Result<Link, AllocError>
     ensures { IfOk result (λ r. (p : Place) → (before : ExprTree)
-        → core_link_behind r p (elab.plain (numbers_of numbers.now) before) ≡ elab.plain (numbers_of numbers.now) (link_behind link.now p before)) }
+        → core_parts.link_behind r p (elab.plain (numbers_of numbers.now) before) ≡ elab.plain (numbers_of numbers.now) (link_behind link.now p before)) }
 {
     match link {
         TypedLink::Operation(operator, e) => Ok(Link::Operation(

@@ -3,37 +3,31 @@
 ghost use Rattle.std.specs.Prelude.{◌≡◌, IfOk};
 ghost use Rattle.ss_core.specs.Tree as tree;
 ghost use Rattle.ss_core.specs.View as core;
-ghost use Rattle.ss_expand_expressions.specs.Views.{core_link_behind, core_step_behind, core_linked, core_stepped};
+ghost use Rattle.ss_core.specs.Parts as core_parts;
 
+use crate::expressions::whole_chain;
 use ss_core::{ClassId, Expr, FieldId, Link, Operator, Place, Step};
 use std::alloc::{AllocError, Global};
 
-// A chain with these links.
-fn linked(place: Place, first: Box<Expr>, links: Vec<Link>) -> Expr
-    ensures { core.expr result ≡ core_linked place (core.expr first.value) links.items }
-{
-    Expr::Chain(place, first, links)
-}
-
 /// A value with one link behind it.
 pub fn with_link(alloc: Global, place: Place, value: Expr, link: Link) -> Result<Expr, AllocError>
-    ensures { IfOk result (λ r. core.expr r ≡ core_link_behind link place (core.expr value)) }
+    ensures { IfOk result (λ r. core.expr r ≡ core_parts.link_behind link place (core.expr value)) }
 {
     let mut links = Vec::new(alloc);
     links.push(link)?;
-    Ok(linked(place, Box::new(alloc, value)?, links))
+    Ok(whole_chain(place, Box::new(alloc, value)?, links))
 }
 
 // A path with these steps.
 fn stepped(place: Place, first: Box<Expr>, steps: Vec<Step>) -> Expr
-    ensures { core.expr result ≡ core_stepped place (core.expr first.value) steps.items }
+    ensures { core.expr result ≡ core_parts.path_front place (core.expr first.value) steps.items }
 {
     Expr::Path(place, first, steps)
 }
 
 /// A value with one step behind it.
 pub fn with_step(alloc: Global, place: Place, value: Expr, step: Step) -> Result<Expr, AllocError>
-    ensures { IfOk result (λ r. core.expr r ≡ core_step_behind step place (core.expr value)) }
+    ensures { IfOk result (λ r. core.expr r ≡ core_parts.step_behind step place (core.expr value)) }
 {
     let mut steps = Vec::new(alloc);
     steps.push(step)?;

@@ -93,7 +93,7 @@ pub struct LazyRight {
     pub source: Source,
 }
 
-/// Ends a lazy operation at this place: where the test holds, the code of the right side is done, and its value put into the same
+/// Ends a lazy operation at this place. Where the test holds, the code of the right side is done, and its value put into the same
 /// temporary.
 pub fn end_lazy(
     alloc: Global,

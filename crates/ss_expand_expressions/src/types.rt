@@ -3,7 +3,7 @@
 ghost use Rattle.std.specs.Prelude.{◌≡◌};
 ghost use Rattle.ss_expand_rules.specs.Lifting as lifting;
 
-use ss_core::{ClassId, Ty};
+use ss_core::{ClassId, Ty, nullable};
 use ss_typed::class_type;
 
 /// The type that is wanted of a reference wherever none is declared.
@@ -20,18 +20,6 @@ pub fn class_of_type(ty: Option<Ty>) -> ClassId
     match ty {
         Some(Ty::Ref { class, .. }) => class,
         Some(Ty::Int) | Some(Ty::Bool) | Some(Ty::Null) | None => ClassId(0),
-    }
-}
-
-// The same type where null passes.
-fn nullable(ty: Ty) -> Ty
-    ensures { result ≡ lifting.nullable ty }
-{
-    match ty {
-        Ty::Ref { class, .. } => class_type(class, false),
-        Ty::Int => Ty::Int,
-        Ty::Bool => Ty::Bool,
-        Ty::Null => Ty::Null,
     }
 }
 

@@ -1,4 +1,4 @@
--- Truth values and lists.
+-- Truth values and lists, as the laws on admissible invariants ask.
 use Rattle.std.proofs.Common.{◌≡◌, ℕ, zero, suc, List, [], ◌∷◌, ◌++◌, Bool, true, false, Some, refl, sym, ◌∙◌, ap, ⊎_elim}
 use Rattle.std.specs.Prelude.{slice_get, find, position, unwrap_or, if◌then◌else◌}
 use Rattle.std.specs.List.{position_or_len}

@@ -6,12 +6,11 @@ use Rattle.std.proofs.lemmas.Option.{same_Some}
 use Rattle.std.proofs.lemmas.Bool.{and_parts, and_from}
 use Rattle.std.proofs.lemmas.List.Folds.{list_all-append}
 use Rattle.ss_core.specs.Tree as core
-use Rattle.ss_core.specs.Chain.{declared}
+use Rattle.ss_core.specs.Chain.{declared, fields_of}
 use Rattle.ss_core.proofs.Declared.{declared_at, declared_place}
 use Rattle.ss_ast.specs.Expressions.{NameTree}
 use Rattle.ss_ast.specs.Programs.{MemberKindTree, FieldsOf, InvariantOf, MethodOf, ConstructorOf, MemberTree, ClassTree, ProgramTree}
 use Rattle.ss_typed.specs.Tree.{InvariantTree, MembersTree, TypedTree}
-use Rattle.ss_paths.specs.Fields.{fields_in}
 use Rattle.ss_owners_rules.specs.Words.{NoWord, misplaced}
 use Rattle.ss_owners_rules.specs.Attributes.{on_invariant, bad_attributes}
 use Rattle.ss_owners_rules.specs.Admissible.{field_marks, inadmissible}
@@ -77,7 +76,7 @@ faultless_at q f u j (d ∷ cs) zero c e h =
     let n : j + 0 ≡ j = omega arith in
     let first = none_of (class_faults q u (f j d)) (classes_faults q (u + 1) (each f (j + 1) cs)) h in
     let same : d ≡ c = same_Some _ _ e in
-    rw n (ap (λ x. invariants_faults (field_marks q.classes) (f j x).invariants) (sym same) ∙ (none_of (fields_faults (f j d).fields (fields_in (slice_get q.classes u))) (invariants_faults (field_marks q.classes) (f j d).invariants) first.0).1)
+    rw n (ap (λ x. invariants_faults (field_marks q.classes) (f j x).invariants) (sym same) ∙ (none_of (fields_faults (f j d).fields (fields_of (slice_get q.classes u))) (invariants_faults (field_marks q.classes) (f j d).invariants) first.0).1)
 faultless_at q f u j (d ∷ cs) (suc i) c e h =
     let n : j + suc i ≡ j + 1 + i = omega arith in
     let rest = none_of (class_faults q u (f j d)) (classes_faults q (u + 1) (each f (j + 1) cs)) h in

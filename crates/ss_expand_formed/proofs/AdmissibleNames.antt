@@ -7,11 +7,12 @@ use Rattle.std.proofs.lemmas.Option.{same_Some, slice_get_within}
 use Rattle.std.proofs.lemmas.Bool.{cases_lt, eq-eqb, or_left, or_right, false≢true}
 use Rattle.std.proofs.lemmas.List.Folds.{find_at}
 use Rattle.std.proofs.lemmas.Slice.Eq.{bytes_eq-Decides}
+use Rattle.std.specs.Option.{option_or}
 use Rattle.ss_core.specs.Chain.{below}
 use Rattle.ss_ast.specs.Expressions.{NameTree}
 use Rattle.ss_ast.specs.Programs.{ClassTree, ProgramTree}
 use Rattle.ss_tables.specs.Members.{FieldTree, fields_in, field_in, methods_in, constructors_in}
-use Rattle.ss_tables.specs.Classes.{Declared, declared_in, or_else, first_field, field_of, members_in, members_at, above_in, steps_above, chain, class_number}
+use Rattle.ss_tables.specs.Classes.{Declared, declared_in, first_field, field_of, members_in, members_at, above_in, steps_above, chain, class_number}
 use Rattle.ss_tables.specs.Scopes.{class_scope}
 use Rattle.ss_core.specs.declared.rules.Rule.TheVariants as rule
 use Rattle.ss_resolver_names_rules.specs.Faults.{fault, unless, twice_among, class_faults}
@@ -115,7 +116,7 @@ module _ (p : ProgramTree) (h : program_faults p ≡ []) where
   abbrev IsFirst : List ℕ → Declared FieldTree → List ℕ → Type 0
   IsFirst n f ks = (list_any (eqb f.class) ks ≡ true) × (field_in (members_at p.classes f.class) n ≡ Some f.member)
 
-  first_of : (n : List ℕ) (f : Declared FieldTree) (k : ℕ) (ks : List ℕ) (o : Option FieldTree) → field_in (members_at p.classes k) n ≡ o → or_else (declared_in k o) (first_field p.classes n ks) ≡ Some f → (first_field p.classes n ks ≡ Some f → IsFirst n f ks) → IsFirst n f (k ∷ ks)
+  first_of : (n : List ℕ) (f : Declared FieldTree) (k : ℕ) (ks : List ℕ) (o : Option FieldTree) → field_in (members_at p.classes k) n ≡ o → option_or (declared_in k o) (first_field p.classes n ks) ≡ Some f → (first_field p.classes n ks ≡ Some f → IsFirst n f ks) → IsFirst n f (k ∷ ks)
   first_of n f k ks None is e rest = let r = rest e in (or_right (eqb f.class k) (list_any (eqb f.class) ks) r.0, r.1)
   first_of n f k ks (Some m) is e rest =
       let same = same_Some _ _ e in

@@ -157,7 +157,7 @@ module _ (p : ProgramTree) (x : Context) (static lacks : Bool) (w : Allowed) (re
   level_answers a es false true false other g e h = absurd (true≢false g)
   level_answers a es false true true other g e h = one_name a es (eqb-true (count es) 1 (not_false _ g)) (subst (λ b. argument_faults (A a) (if b then [] else ClassName ∷ []) es ≡ []) g h)
 
-  question_of : (o : Option Ty) (b d : Bool) (k : Callee) → is_question k ≡ false → is_question (if b then (if statics.may_have_levels o then AWord 1 else NoCallee) else if d then NoCallee else k) ≡ true → b ≡ true
+  question_of : (o : Option Ty) (b d : Bool) (k : Callee) → is_question k ≡ false → is_question (if b then statics.level_callee o else if d then NoCallee else k) ≡ true → b ≡ true
   question_of o true d k h g = refl
   question_of o false true k h g = absurd (false≢true g)
   question_of o false false k h g = absurd (false≢true (sym h ∙ g))

@@ -16,7 +16,7 @@ use Rattle.ss_tables.specs.Classes.{Declared, is_array_number, declared_place, f
 use Rattle.ss_tables.specs.Types.{class_of}
 use Rattle.ss_tables.specs.Words.{is_print, is_owner_word, is_state_read, is_state_call, is_state_word}
 use Rattle.ss_tables.specs.Scopes.{Scope, local_named}
-use Rattle.ss_tables.specs.Statics.{Receiver, TheConsole, TheOwner, TheBase, AClass, AValue, Callee, AMethod, APrint, AWord, ABase, NoCallee, receiver, count, callee, name_callee, method_callee, member_callee, kind_callee, method_at, may_have_levels, is_of_kind}
+use Rattle.ss_tables.specs.Statics.{Receiver, TheConsole, TheOwner, TheBase, AClass, AValue, Callee, AMethod, APrint, AWord, ABase, NoCallee, receiver, count, callee, name_callee, method_callee, member_callee, kind_callee, method_at, may_have_levels, level_callee, is_of_kind}
 use Rattle.ss_tables.specs.Statics as statics
 use Rattle.ss_typed.specs.Tree.{ExprTree, StateOf, LengthOf, OwnersOf}
 use Rattle.ss_typed.specs.Tree as typed
@@ -290,7 +290,7 @@ module _ (p : ProgramTree) (x : Context) (static lacks : Bool) (w : Allowed) (wi
           last true e names wrong_call types = is_owner a q n es ih (counted (count es) 3 wrong_call) names (rw wrong_call at types) words
           last false e names wrong_call types = absurd (neither eb ed e word)
 
-  never_level : (o : Option Ty) (b d : Bool) (k : Callee) → is_question (if b then (if may_have_levels o then AWord 1 else NoCallee) else if d then NoCallee else k) ≡ true → is_question k ≡ false → b ≡ true
+  never_level : (o : Option Ty) (b d : Bool) (k : Callee) → is_question (if b then level_callee o else if d then NoCallee else k) ≡ true → is_question k ≡ false → b ≡ true
   never_level o true d k h g = refl
   never_level o false true k h g = absurd (false≢true h)
   never_level o false false k h g = absurd (false≢true (sym g ∙ h))

@@ -10,6 +10,7 @@ use Rattle.ss_core.specs.declared.names.Place.{Place}
 use Rattle.ss_core.specs.declared.names.Ty.{Ty}
 use Rattle.ss_core.specs.declared.names.Ty.TheVariants as ty
 use Rattle.ss_core.specs.Tree as core
+use Rattle.ss_core.specs.Chain.{fields_of}
 use Rattle.ss_ast.specs.declared.class.Modifier.{Modifier}
 use Rattle.ss_ast.specs.Expressions.{NameTree, TypeTree, TypeNameTree, IntType, BoolType, ObjectType, ClassType}
 use Rattle.ss_ast.specs.Expressions as text
@@ -24,7 +25,6 @@ use Rattle.ss_tables.specs.Scopes as scopes
 use Rattle.ss_tables.specs.Statics.{result_type}
 use Rattle.ss_typed.specs.Tree.{ExprTree, BaseTree, MembersTree, BodyTree, TypedTree}
 use Rattle.ss_typed.specs.Tree as typed
-use Rattle.ss_paths.specs.Fields as paths
 use Rattle.ss_owners_rules.specs.Words.{NoWord, misplaced_in_all, misplaced_if, misplaced_in, Questions, EveryWord}
 use Rattle.ss_owners_rules.specs.Attributes.{on_body, on_field, bad_attributes}
 use Rattle.ss_owners_rules.specs.Program.{misplaced_word, at, of_words, of_attributes, field_faults, fields_faults, invariants_faults, class_faults, classes_faults, params_faults, misplaced_modified, misplaced_base, misplaced_body, body_faults, bodies_faults, ownership_faults}
@@ -315,8 +315,8 @@ module _ (p : ProgramTree) (owned : classes_faults (resolved p) 0 (resolved p).m
       let d = each_at (class p.classes) 0 p.classes k c there in
       let z : 0 + k ≡ k = omega arith in
       let all = class_none (resolved p) 0 (resolved p).members owned k (members p.classes (0 + k) c) m in
-      let of_fields = (none_left (fields_faults (map (field_member e) (fields_in c.members)) (paths.fields_in (slice_get (resolved p).classes (0 + k)))) (invariants_faults _ (members p.classes (0 + k) c).invariants) all).0 in
-      let mine = subst (λ o. fields_faults (map (field_member e) (fields_in c.members)) (paths.fields_in o) ≡ []) (ap (slice_get (resolved p).classes) z ∙ d) of_fields in
+      let of_fields = (none_left (fields_faults (map (field_member e) (fields_in c.members)) (fields_of (slice_get (resolved p).classes (0 + k)))) (invariants_faults _ (members p.classes (0 + k) c).invariants) all).0 in
+      let mine = subst (λ o. fields_faults (map (field_member e) (fields_in c.members)) (fields_of o) ≡ []) (ap (slice_get (resolved p).classes) z ∙ d) of_fields in
       fields_read p.classes e (record { this = refl; result = refl; names = λ n. refl; above = omega arith }) (fields_in c.members) mine
 
   all_fields : list_all members_read (resolved p).members ≡ true

@@ -4,6 +4,7 @@ use Rattle.std.specs.Prelude.{◌&&◌, ◌==◌, not, is_some, codes, option_ma
 use Rattle.std.specs.Str.{bytes_eq}
 use Rattle.std.specs.List.{list_all}
 use Rattle.std.proofs.lemmas.Bool.{and_parts, and_from, false≢true}
+use Rattle.std.specs.Option.{option_or}
 use Rattle.ss_core.specs.declared.names.Place.{Place}
 use Rattle.ss_core.specs.declared.names.Ty.{Ty}
 use Rattle.ss_ast.specs.declared.stmt.AssignOperator.{AssignOperator}
@@ -12,7 +13,6 @@ use Rattle.ss_ast.specs.Expressions.{NameTree, TypeTree, Arguments}
 use Rattle.ss_ast.specs.Expressions as text
 use Rattle.ss_ast.specs.Statements as written
 use Rattle.ss_ast.specs.Programs.{ParamTree}
-use Rattle.ss_tables.specs.Classes.{or_else}
 use Rattle.ss_tables.specs.Types.{written_type}
 use Rattle.ss_tables.specs.Scopes as scopes
 use Rattle.ss_tables.specs.Scopes.{Local, Locals, Scope, declare_local, behind_init}
@@ -46,12 +46,12 @@ use Rattle.ss_expand_formed.proofs.AssignedStatics.{quiet, refusing, Match, eith
 
 -- ---- names in scope
 
-local_append : (ls : Locals) (x : List ℕ) (l : Local) (n : List ℕ) → named_in (ls ++ (x, l) ∷ []) n ≡ or_else (named_in ls n) (if bytes_eq n x then Some l else None)
+local_append : (ls : Locals) (x : List ℕ) (l : Local) (n : List ℕ) → named_in (ls ++ (x, l) ∷ []) n ≡ option_or (named_in ls n) (if bytes_eq n x then Some l else None)
 local_append [] x l n = refl
 local_append (k ∷ ls) x l n = by (bytes_eq n k.0) (local_append ls x l n)
   where
-    by : (b : Bool) → named_in (ls ++ (x, l) ∷ []) n ≡ or_else (named_in ls n) (if bytes_eq n x then Some l else None) →
-        (if b then Some k.1 else named_in (ls ++ (x, l) ∷ []) n) ≡ or_else (if b then Some k.1 else named_in ls n) (if bytes_eq n x then Some l else None)
+    by : (b : Bool) → named_in (ls ++ (x, l) ∷ []) n ≡ option_or (named_in ls n) (if bytes_eq n x then Some l else None) →
+        (if b then Some k.1 else named_in (ls ++ (x, l) ∷ []) n) ≡ option_or (if b then Some k.1 else named_in ls n) (if bytes_eq n x then Some l else None)
     by true h = refl
     by false h = h
 

@@ -4,6 +4,7 @@ use Rattle.std.specs.Prelude.{◌&&◌, ◌||◌, not, is_some, is_none, codes, 
 use Rattle.std.specs.Str.{bytes_eq}
 use Rattle.std.specs.List.{list_all}
 use Rattle.std.proofs.lemmas.Bool.{and_parts, and_from, cases_Bool, false≢true}
+use Rattle.std.specs.Option.{option_or}
 use Rattle.ss_core.specs.declared.names.Place.{Place}
 use Rattle.ss_core.specs.declared.names.Ty.{Ty}
 use Rattle.ss_core.specs.declared.names.Ty.TheVariants as ty
@@ -12,12 +13,12 @@ use Rattle.ss_ast.specs.Expressions.{NameTree, TypeTree, Arguments}
 use Rattle.ss_ast.specs.Expressions as text
 use Rattle.ss_ast.specs.Programs.{ParamTree, ClassTree}
 use Rattle.ss_tables.specs.Members.{FieldTree, MethodTree, is_static}
-use Rattle.ss_tables.specs.Classes.{Declared, or_else, class_named, field_of, method_of, is_array_number, declared_place}
+use Rattle.ss_tables.specs.Classes.{Declared, class_named, field_of, method_of, is_array_number, declared_place}
 use Rattle.ss_tables.specs.Types.{class_of, element_type}
 use Rattle.ss_tables.specs.Words.{is_console, is_owner, is_print, is_owner_word, is_state_read, is_state_call, is_state_word, is_length}
 use Rattle.ss_tables.specs.Scopes.{Local, Scope, local_named}
 use Rattle.ss_tables.specs.Named.{named_in, named_among}
-use Rattle.ss_tables.specs.Statics.{Receiver, TheConsole, TheOwner, TheBase, AClass, AValue, Callee, AMethod, APrint, AWord, NoCallee, is_member, is_of_kind, may_have_levels, constructor_params, receiver, static, count, type_of_local, type_of_field, unless_refused, read_type, method_callee, member_callee, owner_count, called_with, call_type}
+use Rattle.ss_tables.specs.Statics.{Receiver, TheConsole, TheOwner, TheBase, AClass, AValue, Callee, AMethod, APrint, AWord, NoCallee, is_member, is_of_kind, may_have_levels, level_callee, constructor_params, receiver, static, count, type_of_local, type_of_field, unless_refused, read_type, method_callee, member_callee, owner_count, called_with, call_type}
 use Rattle.ss_faults.specs.declared.Fault.{Fault}
 use Rattle.ss_typed.specs.Tree.{ExprTree, OwnersOf}
 use Rattle.ss_typed.specs.Tree as typed
@@ -34,7 +35,7 @@ use Rattle.ss_expand_formed.proofs.Facts.{none_left, or_false}
 use Rattle.ss_expand_formed.proofs.Choosing.{on_either}
 use Rattle.ss_expand_formed.proofs.AssignedReading.{May, reads, read_all}
 use Rattle.ss_expand_formed.proofs.Scopes.{member_reads, method_reads, called_reads}
-use Rattle.ss_expand_formed.proofs.Words.{named, called_word, same_word, calls_words, callee_words, args_words}
+use Rattle.ss_expand_formed.proofs.Words.{named, called_word, same_word, level_word, calls_words, callee_words, args_words}
 
 -- nothing of `this`
 abbrev pub quiet : May
@@ -49,7 +50,7 @@ pub record Match (e : Env) : Type 0 where
   pub inner : (n : List ℕ) → is_some (named_in e.inner n) ≡ is_some (named_in e.scope.inner n)
   pub outer : (n : List ℕ) → is_some (named_among e.outer n) ≡ is_some (named_among e.scope.outer n)
 
-pub either_some : {A B : Type 0} (a c : Option A) (b d : Option B) → is_some a ≡ is_some b → is_some c ≡ is_some d → is_some (or_else a c) ≡ is_some (or_else b d)
+pub either_some : {A B : Type 0} (a c : Option A) (b d : Option B) → is_some a ≡ is_some b → is_some c ≡ is_some d → is_some (option_or a c) ≡ is_some (option_or b d)
 either_some (Some a) c (Some b) d h g = refl
 either_some None c None d h g = g
 either_some (Some a) c None d h g = absurd (false≢true (sym h))
@@ -345,11 +346,10 @@ module _ (r : Option Ty) (lacks : Bool) where
   owner_quiet e p o n es true k h g = g
   owner_quiet e p o n es false k h g = absurd (false≢true h)
 
-  level_quiet : (e : Env) (p : Place) (o : ExprTree) (n : List ℕ) (es : Arguments) (t : Option Ty) (is may : Bool) (other : Callee) → is ≡ true → may ≡ true → reads quiet o ≡ true →
-      reads quiet (called_behind e p (AValue t) o n es (args e es) (if is then (if may then AWord 1 else NoCallee) else other)) ≡ true
-  level_quiet e p o n es t true true other h i g = g
-  level_quiet e p o n es t true false other h i g = absurd (false≢true i)
-  level_quiet e p o n es t false may other h i g = absurd (false≢true h)
+  level_quiet : (e : Env) (p : Place) (o : ExprTree) (n : List ℕ) (es : Arguments) (t : Option Ty) (is : Bool) (other : Callee) → is ≡ true → may_have_levels t ≡ true → reads quiet o ≡ true →
+      reads quiet (called_behind e p (AValue t) o n es (args e es) (if is then level_callee t else other)) ≡ true
+  level_quiet e p o n es t true other h i g = subst (λ k. reads quiet (called_behind e p (AValue t) o n es (args e es) k) ≡ true) (sym (level_word t i).1) g
+  level_quiet e p o n es t false other h i g = absurd (false≢true h)
 
   owner_wants : (n : List ℕ) → (head_plain (wants_of (called_owner n)) ≡ true) × (head_plain (others (wants_of (called_owner n))) ≡ true)
   owner_wants n = by (bytes_eq n (codes "None")) (bytes_eq n (codes "Same")) (bytes_eq n (codes "Is"))
@@ -401,7 +401,7 @@ module _ (r : Option Ty) (lacks : Bool) where
         (λ yes.
         let asked : is_wrong_call (count es) (if is_state_read n then Refused else asks_level v) ≡ false = rw yes at right in
         let may = not_refused (count es) (is_state_read n) v.is_nothing (may_have_levels v.ty) (ClassName ∷ []) asked in
-        level_quiet e p o n es t (is_state_call n) (may_have_levels t) _ yes (subst (λ u. may_have_levels u ≡ true) of_type may) (is refl))
+        level_quiet e p o n es t (is_state_call n) _ yes (subst (λ u. may_have_levels u ≡ true) of_type may) (is refl))
         (λ no.
         let wants = argument_plain (count es) (called_value e.scope.classes v n) (value_takes e.scope.classes v n no) in
         called_reads quiet e p (AValue t) o n es (args e es) (member_callee e.scope n (AValue t)) (is refl) (args_quiet e c (argument_wants (count es) (called_value e.scope.classes v n)) wants es claims h w))

@@ -8,6 +8,7 @@ use Rattle.ss_core.specs.declared.names.Ty.TheVariants as ty
 use Rattle.ss_core.specs.Tree as core
 use Rattle.ss_core.specs.Tree.{LocalExpr, WriteStmt, WriteElementStmt}
 use Rattle.ss_core.specs.Chain.{DeclaredField}
+use Rattle.ss_core.specs.Types.{is_class_type}
 use Rattle.ss_typed.specs.Tree.{ExprTree, ThisOf, LocalOf, FieldOf, CastOf, OldOf, ResultOf, NewOf, NewArrayOf, CallOf, StaticOf, BaseOf}
 use Rattle.ss_typed.specs.Types.{type_of}
 use Rattle.ss_paths.specs.Sets.{Set, put}
@@ -17,7 +18,6 @@ use Rattle.ss_paths.specs.Assigned.{Assigned, has_field, own_assigned}
 use Rattle.ss_typed.specs.Shapes.{is_this}
 use Rattle.ss_nonnull_rules.specs.NonNull as source
 use Rattle.ss_expand_rules.specs.Numbers.{number}
-use Rattle.ss_expand_rules.specs.Contracts.{is_reference}
 use Rattle.ss_expand_rules.specs.Lifting as lifting
 use Rattle.ss_expand_rules.specs.Lifting.{Lifted, Valued}
 use Rattle.ss_expand_rules.specs.Simple.{write_of}
@@ -86,10 +86,10 @@ module _ (z : Frame) (agrees : Agrees z) where
   pub value_never : (k : source.Known) (l : Known) → Covers z k l → (e : ExprTree) → fits z e ≡ true → is_reference_type (type_of e) ≡ false → never_in z agrees k e ≡ false
   value_never k l c (ThisOf p t) f h = absurd (false≢true (sym h))
   value_never k l c (LocalOf p x t) f h =
-      let kind = (and_parts (implied (fields.is_non_null t) (is_non_null_type (local_type z (number z.numbers x)))) (implied (z.mine x) (is_reference t)) f).1 in
-      by t h (k.facts x) refl (λ i. implied_true (z.mine x) (is_reference t) kind (c.mine x i))
+      let kind = (and_parts (implied (fields.is_non_null t) (is_non_null_type (local_type z (number z.numbers x)))) (implied (z.mine x) (is_class_type t)) f).1 in
+      by t h (k.facts x) refl (λ i. implied_true (z.mine x) (is_class_type t) kind (c.mine x i))
     where
-      by : (t : Ty) → is_reference t ≡ false → (b : Bool) → k.facts x ≡ b → (b ≡ true → is_reference t ≡ true) → (fields.is_non_null t || k.facts x) ≡ false
+      by : (t : Ty) → is_class_type t ≡ false → (b : Bool) → k.facts x ≡ b → (b ≡ true → is_class_type t ≡ true) → (fields.is_non_null t || k.facts x) ≡ false
       by ty.Int h false e g = e
       by ty.Bool h false e g = e
       by ty.Null h false e g = e
@@ -99,7 +99,7 @@ module _ (z : Frame) (agrees : Agrees z) where
       by (ty.Ref u non_null) h b e g = absurd (false≢true (sym h))
   value_never k l c (FieldOf p e g t) f h = by t h
     where
-      by : (t : Ty) → is_reference t ≡ false → (fields.is_non_null t && source.field_is_set z.context (Some k) e g) ≡ false
+      by : (t : Ty) → is_class_type t ≡ false → (fields.is_non_null t && source.field_is_set z.context (Some k) e g) ≡ false
       by ty.Int h = refl
       by ty.Bool h = refl
       by ty.Null h = refl

@@ -3,11 +3,12 @@ use Rattle.std.proofs.Common.{◌≡◌, ℕ, List, Bool, true, false, Option, S
 use Rattle.std.specs.Prelude.{◌&&◌, if◌then◌else◌}
 use Rattle.std.specs.Str.{bytes_eq}
 use Rattle.std.proofs.lemmas.Bool.{and_from, false≢true}
+use Rattle.std.specs.Option.{option_or}
 use Rattle.ss_core.specs.declared.names.Place.{Place}
 use Rattle.ss_ast.specs.Expressions.{NameTree}
 use Rattle.ss_ast.specs.Expressions as text
 use Rattle.ss_tables.specs.Members.{FieldTree}
-use Rattle.ss_tables.specs.Classes.{Declared, or_else, field_of, is_array_number, declared_place}
+use Rattle.ss_tables.specs.Classes.{Declared, field_of, is_array_number, declared_place}
 use Rattle.ss_tables.specs.Words.{is_state_read}
 use Rattle.ss_tables.specs.Statics.{static}
 use Rattle.ss_typed.specs.Tree.{ExprTree, LocalOf, IffOf, ImpliesOf, BinaryOf, IsOf, AsOf, NegateOf, NotOf, CastOf, FieldOf, ElementOf, LengthOf, QuantifiedOf}
@@ -62,7 +63,7 @@ is_bound (Some (Variable x t)) = false
 abbrev pub HasNoLocal : Env → Type 0
 HasNoLocal e = (n : List ℕ) → is_bound (known e n) ≡ true
 
-bound_or : (b : Bool) (k : ℕ) (o : Option Known) → is_bound o ≡ true → is_bound (or_else (if b then Some (BoundName k) else None) o) ≡ true
+bound_or : (b : Bool) (k : ℕ) (o : Option Known) → is_bound o ≡ true → is_bound (option_or (if b then Some (BoundName k) else None) o) ≡ true
 bound_or true k o h = refl
 bound_or false k o h = h
 

@@ -11,7 +11,7 @@ use Rattle.ss_tables.specs.Classes.{declared_place}
 use Rattle.ss_tables.specs.Types.{class_of}
 use Rattle.ss_tables.specs.Words.{is_state_read, is_state_call, is_state_word}
 use Rattle.ss_tables.specs.Scopes.{Scope}
-use Rattle.ss_tables.specs.Statics.{Receiver, TheConsole, TheOwner, TheBase, AClass, AValue, Callee, AMethod, AWord, NoCallee, is_member, member_callee, receiver, count, callee, may_have_levels, result_type}
+use Rattle.ss_tables.specs.Statics.{Receiver, TheConsole, TheOwner, TheBase, AClass, AValue, Callee, AMethod, AWord, NoCallee, is_member, member_callee, receiver, count, callee, may_have_levels, level_callee, result_type}
 use Rattle.ss_tables.specs.Statics as statics
 use Rattle.ss_resolver_names_rules.specs.Expressions.{has_member, arguments_faults}
 use Rattle.ss_resolver_names_rules.specs.Programs.{program_faults}
@@ -19,6 +19,7 @@ use Rattle.ss_resolver_types_heads.specs.Wants.{ClassName, has_no_value, known}
 use Rattle.ss_resolver_types_heads.specs.Calls.{ExprContext, Taking, Refused, called_on_object, called_member, has_no_members, without_members, class_of_known, asks_level, argument_wants, is_wrong_call}
 use Rattle.ss_resolver_types_heads.specs.Expressions.{AsValue, is_question, faults, argument_faults}
 use Rattle.ss_expand_formed.proofs.Facts.{or_false}
+use Rattle.ss_expand_formed.proofs.Words.{level_word}
 use Rattle.ss_expand_formed.proofs.Fit.{Context}
 use Rattle.ss_expand_formed.proofs.ExpressionsScopes.{refusing, expr_context}
 use Rattle.ss_expand_formed.proofs.ExpressionsPlaces.{At, scope_at, IsKnown, IsPlace, static_at, Sound}
@@ -63,7 +64,7 @@ module _ (p : ProgramTree) (faultless : program_faults p ≡ []) (x : Context) (
       never_level false false h = absurd (true≢false h)
 
       by : (b d e : Bool) → is_state_read n.text ≡ b → is_state_call n.text ≡ d → has_no_members (known T y) ≡ e →
-          is_question (if d then (if may_have_levels (statics.static (scope_at p a) y) then AWord 1 else NoCallee) else if b then NoCallee else statics.method_at p.classes n.text (option_and_then declared_place (option_and_then class_of (statics.static (scope_at p a) y)))) ≡ false →
+          is_question (if d then level_callee (statics.static (scope_at p a) y) else if b then NoCallee else statics.method_at p.classes n.text (option_and_then declared_place (option_and_then class_of (statics.static (scope_at p a) y)))) ≡ false →
           (b || d || has_member p.classes n.text (option_and_then class_of (statics.static (scope_at p a) y))) ≡ true →
           is_wrong_call (count es) (if b then Refused else if d then asks_level (known T y) else if e then Refused else called_on_object p.classes n.text (class_of_known (known T y))) ≡ false →
           argument_faults A (argument_wants (count es) (if b then Refused else if d then asks_level (known T y) else if e then Refused else called_on_object p.classes n.text (class_of_known (known T y)))) es ≡ [] → Is (CallOf q (MemberOf m y n) es)
@@ -71,7 +72,7 @@ module _ (p : ProgramTree) (faultless : program_faults p ≡ []) (x : Context) (
       by false true e eb ed ee ask k w g =
           let may = never_level (has_no_value T y) (may_have_levels (statics.static T y)) w in
           let level : may_have_levels (statics.static (scope_at p a) y) ≡ true = ap may_have_levels (sym same) ∙ may in
-          absurd (true≢false (subst (λ z. is_question (if z then AWord 1 else NoCallee) ≡ false) level ask))
+          absurd (true≢false (subst (λ k. is_question k ≡ false) (level_word (statics.static (scope_at p a) y) level).1 ask))
       by false false true eb ed ee ask k w g = absurd (true≢false w)
       by false false false eb ed ee ask k w g =
           let t = some_type (statics.static (scope_at p a) y) (has_no_value T y) s.valued (ap (without_members (has_no_value T y)) (sym same) ∙ ee) in

@@ -7,6 +7,7 @@ use Rattle.std.proofs.lemmas.Bool.{and_parts, and_from, or_cases, or_right, eqb-
 use Rattle.std.proofs.lemmas.Option.{same_Some, slice_get_within, slice_get-map}
 use Rattle.std.proofs.lemmas.List.Folds.{find_at}
 use Rattle.std.proofs.lemmas.Slice.Eq.{bytes_eq-Decides}
+use Rattle.std.specs.Option.{option_or}
 use Rattle.ss_core.specs.declared.names.Ty.{Ty}
 use Rattle.ss_core.specs.declared.names.Ty.TheVariants as ty
 use Rattle.ss_core.specs.Tree as core
@@ -16,7 +17,7 @@ use Rattle.ss_core.proofs.Chains.{sub_self, sub_if_below, sub_up}
 use Rattle.ss_ast.specs.Expressions.{TypeTree}
 use Rattle.ss_ast.specs.Programs.{ClassTree, ProgramTree}
 use Rattle.ss_tables.specs.Members.{FieldTree, fields_in, field_in}
-use Rattle.ss_tables.specs.Classes.{Declared, declared_in, or_else, class_named, above, chain_from, members_in, members_at, first_field, field_of, class_number, is_array_number, declared_place}
+use Rattle.ss_tables.specs.Classes.{Declared, declared_in, class_named, above, chain_from, members_in, members_at, first_field, field_of, class_number, is_array_number, declared_place}
 use Rattle.ss_tables.specs.Classes as tables
 use Rattle.ss_tables.specs.Types.{written_type}
 use Rattle.ss_resolver_names_rules.specs.Programs.{program_faults}
@@ -165,7 +166,7 @@ module _ (p : ProgramTree) (faultless : program_faults p ≡ []) where
 
   -- ---- fields
 
-  field_of_first : (n : List ℕ) (f : Declared FieldTree) (k : ℕ) (ks : List ℕ) (o : Option FieldTree) → field_in (members_at p.classes k) n ≡ o → (first_field p.classes n ks ≡ Some f → field_in (members_at p.classes f.class) n ≡ Some f.member) → or_else (declared_in k o) (first_field p.classes n ks) ≡ Some f → field_in (members_at p.classes f.class) n ≡ Some f.member
+  field_of_first : (n : List ℕ) (f : Declared FieldTree) (k : ℕ) (ks : List ℕ) (o : Option FieldTree) → field_in (members_at p.classes k) n ≡ o → (first_field p.classes n ks ≡ Some f → field_in (members_at p.classes f.class) n ≡ Some f.member) → option_or (declared_in k o) (first_field p.classes n ks) ≡ Some f → field_in (members_at p.classes f.class) n ≡ Some f.member
   field_of_first n f k ks None e rest g = rest g
   field_of_first n f k ks (Some m) e rest g =
       let same = same_Some _ _ g in

@@ -11,9 +11,10 @@ use Rattle.ss_core.specs.declared.names.Ty.{Ty}
 use Rattle.ss_core.specs.declared.names.Ty.TheVariants as ty
 use Rattle.ss_core.specs.Tree as core
 use Rattle.ss_core.specs.Tree.{DefaultTree, AtLevel, Full}
+use Rattle.ss_core.specs.Types.{is_class_type}
 use Rattle.ss_typed.specs.Tree.{ParamTree, BodyTree, TypedTree}
 use Rattle.ss_expand_rules.specs.Numbers.{plain, all_plain}
-use Rattle.ss_expand_rules.specs.Contracts.{first_param, of_param, of_params, where_asked, is_reference, default_entry, default_exit, entry_of_first, modifies_of_first, all_exits}
+use Rattle.ss_expand_rules.specs.Contracts.{first_param, of_param, of_params, where_asked, default_entry, default_exit, entry_of_first, modifies_of_first, all_exits}
 use Rattle.ss_expand_rules.specs.Bodies.{results, param_of, temporaries_from, contract_numbers, written_body, wrapper_types, first_of_wrapper, wrapper_numbers, wrapper_body}
 use Rattle.ss_store_rules.specs.Locals.{types_of, argument_count, this_types}
 use Rattle.ss_store_rules.specs.Tables.{no_place, normal_default, captures, StandsFor}
@@ -81,7 +82,7 @@ exit_alike false false true t u = refl
 exit_alike false false false t u = refl
 
 abbrev param_by : ℕ → Ty → Bool → Bool → Bool → Bool → List DefaultTree
-param_by x t captured undefaulted pure static = where_asked (is_reference t && not undefaulted) (if pure then core.FullArgument x else core.ConsistentArgument x) ++ where_asked captured (core.Captured x (not static))
+param_by x t captured undefaulted pure static = where_asked (is_class_type t && not undefaulted) (if pure then core.FullArgument x else core.ConsistentArgument x) ++ where_asked captured (core.Captured x (not static))
 
 module _ (b c : BodyTree) (same : SameHeading b c) where
   param_alike : (x : ℕ) (p q : ParamTree) → p.ty ≡ q.ty → p.captured ≡ q.captured → of_param b x p ≡ of_param c x q

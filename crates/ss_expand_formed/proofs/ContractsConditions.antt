@@ -10,6 +10,7 @@ use Rattle.ss_core.specs.declared.names.Ty.TheVariants as ty
 use Rattle.ss_core.specs.Tree as core
 use Rattle.ss_core.specs.Tree.{DefaultTree}
 use Rattle.ss_core.specs.Chain.{IsChain, all_fields}
+use Rattle.ss_core.specs.Types.{nullable}
 use Rattle.ss_typed.specs.Tree.{ExprTree, IntOf, BoolOf, NullOf, ThisOf, LocalOf, ResultOf, BoundOf, IffOf, ImpliesOf, BinaryOf, IsOf, AsOf, NegateOf, NotOf, CastOf, FieldOf, ElementOf, LengthOf, OldOf, QuantifiedOf, StateOf, OwnersOf, NewOf, NewArrayOf, CallOf, StaticOf, BaseOf, ModifiedTree, OneOf, AllOf, ElementsOf, ParamTree, BodyTree, TypedTree}
 use Rattle.ss_typed.specs.Types.{class_type, type_of}
 use Rattle.ss_owners_rules.specs.Words.{Allowed, NoWord, Questions, EveryWord, allows_result, allows_old, allows_state, allows_question, unless, misplaced}
@@ -108,7 +109,7 @@ module _ (P : TypedTree) (C : List core.ClassTree) (x : Context) (ns : Numbers) 
 
 -- ---- locals of a body that has the contract
 
-narrowed_if : (C : List core.ClassTree) (static : Bool) (a b : Ty) (ps ls rs : List Ty) → (static ≡ false → Narrows C (Some (types.plain a)) (Some (types.plain b))) → AreNarrowed C ((if static then [] else a ∷ []) ++ ps ++ ls ++ rs) ((if static then [] else b ∷ []) ++ ps ++ ls ++ rs)
+narrowed_if : (C : List core.ClassTree) (static : Bool) (a b : Ty) (ps ls rs : List Ty) → (static ≡ false → Narrows C (Some (nullable a)) (Some (nullable b))) → AreNarrowed C ((if static then [] else a ∷ []) ++ ps ++ ls ++ rs) ((if static then [] else b ∷ []) ++ ps ++ ls ++ rs)
 narrowed_if C true a b ps ls rs h = record { count = refl; each = λ n. Same refl }
 narrowed_if C false a b ps ls rs h = record { count = refl; each = at }
   where
@@ -178,7 +179,7 @@ module _ (P : TypedTree) (C : List core.ClassTree) (chain : IsChain C) (y : core
     bound = bound_above;
   }
 
-  lowered : d.flags.is_static ≡ false → Narrows C (Some (types.plain (ty.Ref (record { 0 = d.class }) true))) (Some (types.plain (ty.Ref (record { 0 = y.class }) true)))
+  lowered : d.flags.is_static ≡ false → Narrows C (Some (nullable (ty.Ref (record { 0 = d.class }) true))) (Some (nullable (ty.Ref (record { 0 = y.class }) true)))
   lowered h = Lower d.class y.class false false refl refl (under h) no_array
 
   narrowed : AreNarrowed C (local_types above) (local_types y)
@@ -296,7 +297,7 @@ module _ (P : TypedTree) (C : List core.ClassTree) (chain : IsChain C) (y : core
       let test = λ (c : ℕ). below C c r.field.class in
       let has : has_class test (code_type C y (plain is.numbers e)) ≡ true = below_stays C chain r.field.class (bare (type_of e)) (code_type C y (plain is.numbers e)) (narrow_here NoWord e s) (bare_class test (type_of e) ∙ r.has) in
       named_here (λ a. is_some (field_read_type C a (slice_get (all_fields C) f))) e s
-      (ap (λ o. is_some (field_read_type C (code_type C y (plain is.numbers e)) o)) r.there ∙ ap (λ z. is_some (where_typed z (types.plain r.field.field.ty))) has)
+      (ap (λ o. is_some (field_read_type C (code_type C y (plain is.numbers e)) o)) r.there ∙ ap (λ z. is_some (where_typed z (nullable r.field.field.ty))) has)
   term_here (AllOf e) (SoundObject s h instance) =
       ⊎_elim
       (λ this.

@@ -30,7 +30,7 @@ use Rattle.ss_expand_formed.proofs.ChainLaw.{has_chain}
 use Rattle.ss_expand_formed.proofs.Marks.{have_params}
 use Rattle.ss_expand_formed.proofs.Headings.{SameHeading, same_heading}
 use Rattle.ss_expand_formed.proofs.Normal.{HasContract}
-use Rattle.ss_expand_formed.specs.ContractLaws.{HaveEntries, HaveExits}
+use Rattle.ss_expand_formed.specs.ContractParts.{HaveEntries, HaveExits}
 use Rattle.ss_expand_formed.proofs.Origins.{Declares, OfConstructor, OfImplicit, OfTable, contract_of}
 use Rattle.ss_expand_formed.proofs.Defaults.{may_capture, captures_allowed, entry_own, exit_own}
 use Rattle.ss_expand_formed.proofs.ContractsConditions.{entry_here, exit_here}

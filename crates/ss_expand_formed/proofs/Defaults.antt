@@ -11,22 +11,23 @@ use Rattle.ss_core.specs.declared.names.Ty.TheVariants as ty
 use Rattle.ss_core.specs.Tree as core
 use Rattle.ss_core.specs.Tree.{DefaultTree, AtLevel, Full}
 use Rattle.ss_core.specs.Chain.{is_type}
+use Rattle.ss_core.specs.Types.{is_class_type}
 use Rattle.ss_ast.specs.Programs.{ProgramTree}
 use Rattle.ss_typed.specs.Tree.{ExprTree, IntOf, ParamTree, BodyTree}
 use Rattle.ss_owners_rules.specs.Program.{ownership_faults}
 use Rattle.ss_resolver_names_rules.specs.Programs.{program_faults}
 use Rattle.ss_resolver_rules.specs.Programs.{resolved}
 use Rattle.ss_expand_rules.specs.Numbers.{Numbers, plain, all_plain}
-use Rattle.ss_expand_rules.specs.Contracts.{first_param, is_reference, where_asked, of_argument, of_param, of_params, of_this_at_entry, default_entry, default_exit, conditions, entry_of_first, all_exits}
+use Rattle.ss_expand_rules.specs.Contracts.{first_param, where_asked, of_argument, of_param, of_params, of_this_at_entry, default_entry, default_exit, conditions, entry_of_first, all_exits}
 use Rattle.ss_expand_rules.specs.Bodies.{param_of}
 use Rattle.ss_store_rules.specs.Locals.{argument_count, is_argument}
 use Rattle.ss_store_rules.specs.Types.{has_class}
-use Rattle.ss_store_rules.specs.Typed.{is_class_type, is_local, is_reference_argument, is_default_of}
+use Rattle.ss_store_rules.specs.Typed.{is_local, is_reference_argument, is_default_of}
 use Rattle.ss_expand_formed.specs.Laws.{core_of}
 use Rattle.ss_expand_formed.proofs.Facts.{or_false}
 use Rattle.ss_expand_formed.proofs.Marks.{have_params}
 use Rattle.ss_expand_formed.proofs.Normal.{HasContract}
-use Rattle.ss_expand_formed.specs.ContractLaws.{has_own_default, HaveDefaults}
+use Rattle.ss_expand_formed.specs.ContractParts.{has_own_default, HaveDefaults}
 use Rattle.ss_expand_formed.proofs.Arguments.{param_at}
 use Rattle.ss_expand_formed.proofs.Origins.{contract_of}
 
@@ -39,12 +40,6 @@ class_of_type ty.Int h = absurd (false≢true h)
 class_of_type ty.Bool h = absurd (false≢true h)
 class_of_type ty.Null h = absurd (false≢true h)
 class_of_type (ty.Ref t n) h = refl
-
-reference_is : (t : Ty) → is_reference t ≡ true → is_class_type t ≡ true
-reference_is ty.Int h = absurd (false≢true h)
-reference_is ty.Bool h = absurd (false≢true h)
-reference_is ty.Null h = absurd (false≢true h)
-reference_is (ty.Ref t n) h = refl
 
 pub captures_allowed : (cs : List core.ClassTree) (qs : List ParamTree) → list_all (is_local cs) (map param_of qs) ≡ true → list_all may_capture qs ≡ true
 captures_allowed cs [] h = refl
@@ -119,8 +114,8 @@ module _ (y : core.BodyTree) (b : BodyTree) (bs : List BodyTree) (is : HasContra
       let both = and_parts (may_capture q) (list_all may_capture qs) h in
       let zero_more : i + 0 ≡ i = omega arith in
       let it : slice_get b.params i ≡ Some q = ap (slice_get b.params) (sym zero_more) ∙ at 0 q refl in
-      let asked = is_reference q.ty && not b.flags.no_default_contract in
-      let one = asked_own (is_default_of y) asked (of_argument b x) (λ a. argument_own x (reference_own i q it (reference_is q.ty (and_parts (is_reference q.ty) (not b.flags.no_default_contract) a).0))) in
+      let asked = is_class_type q.ty && not b.flags.no_default_contract in
+      let one = asked_own (is_default_of y) asked (of_argument b x) (λ a. argument_own x (reference_own i q it (and_parts (is_class_type q.ty) (not b.flags.no_default_contract) a).0)) in
       let two = asked_own (is_default_of y) q.captured (core.Captured x (not b.flags.is_static)) (λ a. captured_own x (reference_own i q it (rw a at both.0))) in
       let next : first_param b + (i + 1) ≡ x + 1 = omega arith in
       let rest = params_own (i + 1) qs (λ j r e. let s : i + 1 + j ≡ i + suc j = omega arith in ap (slice_get b.params) s ∙ at (suc j) r e) both.1 in

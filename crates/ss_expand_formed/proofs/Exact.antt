@@ -8,6 +8,7 @@ use Rattle.ss_core.specs.declared.expr.Operator.{Operator}
 use Rattle.ss_core.specs.declared.expr.Operator.TheVariants as op
 use Rattle.ss_core.specs.Tree as core
 use Rattle.ss_core.specs.Chain.{IsChain}
+use Rattle.ss_core.specs.Types.{nullable}
 use Rattle.ss_typed.specs.Tree.{TypedTree, ExprTree, IntOf, BoolOf, NullOf, ThisOf, LocalOf, ResultOf, BoundOf, IffOf, ImpliesOf, BinaryOf, IsOf, AsOf, NegateOf, NotOf, CastOf, FieldOf, ElementOf, LengthOf, OldOf, QuantifiedOf, StateOf, OwnersOf, NewOf, NewArrayOf, CallOf, StaticOf, BaseOf}
 use Rattle.ss_typed.specs.Types.{class_type, type_of}
 use Rattle.ss_typed.specs.Types as typed
@@ -80,7 +81,7 @@ module _ (P : TypedTree) (C : List core.ClassTree) (x : Context) (ns : Numbers) 
   exact_type k (FieldOf p e g t) f without =
       let r = f.1 in
       let has = lower_below C (In k e) (type_of e) chain r.field.class (lower k e f.0 without) r.has in
-      ap (types.field_read_type C (In k e)) r.there ∙ (rw has refl) ∙ ap (λ u. Some (types.plain u)) r.type
+      ap (types.field_read_type C (In k e)) r.there ∙ (rw has refl) ∙ ap (λ u. Some (nullable u)) r.type
   exact_type k (ElementOf p a i) f without = unmarked k (ElementOf p a i) f without (element_unmarked (type_of a))
   exact_type k (LengthOf p e) f without = unmarked k (LengthOf p e) f without refl
   exact_type k (OldOf p e) f without = exact_type k e f without

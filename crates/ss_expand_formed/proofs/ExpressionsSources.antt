@@ -9,12 +9,13 @@ use Rattle.ss_core.specs.Tree as core
 use Rattle.ss_core.specs.Chain.{is_class}
 use Rattle.ss_core.specs.declared.expr.Operator.{Operator}
 use Rattle.ss_core.specs.declared.expr.Operator.TheVariants as op
+use Rattle.ss_core.specs.Types.{nullable}
 use Rattle.ss_ast.specs.Expressions.{NameTree, TypeTree, Arguments, NoMore, Argument, IffOf, ImpliesOf, BinaryOf, IsOf, AsOf, NegateOf, NotOf, CastOf, MemberOf, ElementOf, CallOf, NumberOf, TextOf, TruthOf, NullOf, ThisOf, BaseOf, ResultOf, NameOf, ParenOf, OldOf, NewOf, NewArrayOf, QuantifiedOf}
 use Rattle.ss_ast.specs.Expressions as text
 use Rattle.ss_ast.specs.Programs.{ClassTree, ProgramTree}
 use Rattle.ss_tables.specs.Members.{MethodTree}
 use Rattle.ss_tables.specs.Classes.{Declared, field_of, method_of, inherited_method, declared_place}
-use Rattle.ss_tables.specs.Types.{class_of, element_type, nullable, written_type}
+use Rattle.ss_tables.specs.Types.{class_of, element_type, written_type}
 use Rattle.ss_tables.specs.Words.{is_owner_word, is_state_read, is_state_call, is_state_word, is_print}
 use Rattle.ss_tables.specs.Scopes.{Scope, local_named}
 use Rattle.ss_tables.specs.Statics.{Receiver, TheConsole, TheOwner, TheBase, AClass, AValue, Callee, AMethod, APrint, AWord, ABase, NoCallee, receiver, count, callee, member_callee, cast_type}
@@ -239,7 +240,7 @@ module _ (p : ProgramTree) (faultless : program_faults p ≡ []) (x : Context) (
       by true = refl
       by false = never_bare static (method_of p.classes a.class n)
 
-  question_level : (o : Option Ty) (b d : Bool) (k : Callee) → is_question (if b then (if statics.may_have_levels o then AWord 1 else NoCallee) else if d then NoCallee else k) ≡ true → is_question k ≡ false → b ≡ true
+  question_level : (o : Option Ty) (b d : Bool) (k : Callee) → is_question (if b then statics.level_callee o else if d then NoCallee else k) ≡ true → is_question k ≡ false → b ≡ true
   question_level o true d k h g = refl
   question_level o false true k h g = absurd (false≢true h)
   question_level o false false k h g = absurd (false≢true (sym g ∙ h))

@@ -8,13 +8,14 @@ use Rattle.std.proofs.lemmas.Option.{same_Some, slice_get_within, slice_get_past
 use Rattle.std.proofs.lemmas.Bool.{cases_Bool, cases_lt, eq-eqb, ne_eqb, lt-ltb, false≢true}
 use Rattle.std.proofs.lemmas.List.{length-map}
 use Rattle.std.proofs.lemmas.List.Folds.{find_at}
+use Rattle.std.specs.Option.{option_or}
 use Rattle.ss_core.specs.Tree as core
 use Rattle.ss_core.specs.Chain as chain
 use Rattle.ss_core.specs.Chain.{declared}
 use Rattle.ss_ast.specs.Programs.{ClassTree, ProgramTree}
 use Rattle.ss_faults.specs.declared.Fault.{Fault}
 use Rattle.ss_tables.specs.Members.{MethodTree, methods_in, method_in}
-use Rattle.ss_tables.specs.Classes.{Declared, declared_in, or_else, members_in, members_at, above, steps_above, chain_from, first_method, inherited_method}
+use Rattle.ss_tables.specs.Classes.{Declared, declared_in, members_in, members_at, above, steps_above, chain_from, first_method, inherited_method}
 use Rattle.ss_tables.specs.Classes as tables
 use Rattle.ss_typed.specs.Tree.{BodyTree, TypedTree}
 use Rattle.ss_nonnull_rules.specs.Faults.{table_of}
@@ -138,12 +139,12 @@ module _ (p : ProgramTree) where
   own_first k ks n (Some c) is h =
       let w = own_method k c is n h in
       let found : method_in (members_at p.classes k) n ≡ Some w.method = ap (λ (o : Option ClassTree). method_in (members_in o) n) is ∙ w.found in
-      record { class = k; tree = c; method = w.method; there = is; is = w.is; first = ap (λ o. or_else (declared_in k o) (first_method p.classes n ks)) found }
+      record { class = k; tree = c; method = w.method; there = is; is = w.is; first = ap (λ o. option_or (declared_in k o) (first_method p.classes n ks)) found }
 
   none_first : (k : ℕ) (ks : List ℕ) (n : List ℕ) → is_listed (method_names (members_at p.classes k)) n ≡ false → first_method p.classes n (k ∷ ks) ≡ first_method p.classes n ks
   none_first k ks n h =
       let none : method_in (members_at p.classes k) n ≡ None = find_none (λ (m : MethodTree). bytes_eq n m.name.text) (methods_in (members_at p.classes k)) (sym (listed_methods (members_at p.classes k) n) ∙ h) in
-      ap (λ o. or_else (declared_in k o) (first_method p.classes n ks)) none
+      ap (λ o. option_or (declared_in k o) (first_method p.classes n ks)) none
 
   overridden_first : (k : ℕ) (ks : List ℕ) (e : core.EntryTree) → IsFirst ks e → IsFirst (k ∷ ks) (overridden p.classes k e)
   overridden_first k ks e x =

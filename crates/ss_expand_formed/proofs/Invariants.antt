@@ -9,7 +9,7 @@ use Rattle.ss_core.specs.declared.names.Place.{Place}
 use Rattle.ss_core.specs.declared.names.Mark.{Mark}
 use Rattle.ss_core.specs.declared.names.Ty.{Ty}
 use Rattle.ss_core.specs.Tree as core
-use Rattle.ss_core.specs.Chain.{declared, is_type, is_class}
+use Rattle.ss_core.specs.Chain.{declared, is_type, is_class, fields_of}
 use Rattle.ss_core.proofs.Declared.{declared_place}
 use Rattle.ss_ast.specs.Expressions as text
 use Rattle.ss_ast.specs.Expressions.{NameTree}
@@ -23,7 +23,6 @@ use Rattle.ss_owners_rules.specs.Attributes.{on_invariant, bad_attributes}
 use Rattle.ss_owners_rules.specs.Admissible.{field_marks, inadmissible}
 use Rattle.ss_owners_rules.specs.Program as owners
 use Rattle.ss_owners_rules.specs.Program.{of_attributes, of_words, of_reads, invariant_faults, invariants_faults, ownership_faults}
-use Rattle.ss_paths.specs.Fields.{fields_in}
 use Rattle.ss_resolver_names_rules.specs.Expressions.{expr_faults}
 use Rattle.ss_resolver_names_rules.specs.Members as names
 use Rattle.ss_resolver_names_rules.specs.Programs.{program_faults}
@@ -50,7 +49,7 @@ use Rattle.ss_expand_formed.proofs.Exact.{exact_type}
 use Rattle.ss_expand_formed.proofs.Plain.{Reads, bare, bare_bool}
 use Rattle.ss_expand_formed.proofs.ExpressionsPlaces.{At, IsKnown, IsPlace}
 use Rattle.ss_expand_formed.proofs.Conditions.{condition_sound}
-use Rattle.ss_expand_formed.specs.ContractLaws.{HaveInvariants}
+use Rattle.ss_expand_formed.specs.ContractParts.{HaveInvariants}
 use Rattle.ss_expand_formed.proofs.ContractsSources.{members_typed}
 use Rattle.ss_expand_formed.proofs.Answers.{answers}
 
@@ -69,7 +68,7 @@ class_owned : (q : TypedTree) (j : ℕ) (cs : List MembersTree) (i : ℕ) (m : M
 class_owned q j [] i m h e = absurd (let z : ⊥ = cc in z)
 class_owned q j (x ∷ cs) zero m h e =
     let here = (none_left (owners.class_faults q j x) (owners.classes_faults q (j + 1) cs) h).0 in
-    let mine = (none_left (owners.fields_faults x.fields (fields_in (slice_get q.classes j))) (invariants_faults (field_marks q.classes) x.invariants) here).1 in
+    let mine = (none_left (owners.fields_faults x.fields (fields_of (slice_get q.classes j))) (invariants_faults (field_marks q.classes) x.invariants) here).1 in
     subst (λ (y : MembersTree). invariants_faults (field_marks q.classes) y.invariants ≡ []) (same_Some _ _ e) mine
 class_owned q j (x ∷ cs) (suc i) m h e = class_owned q (j + 1) cs i m (none_left (owners.class_faults q j x) (owners.classes_faults q (j + 1) cs) h).1 e
 

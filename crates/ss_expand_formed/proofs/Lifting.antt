@@ -12,6 +12,7 @@ use Rattle.ss_core.specs.Tree as core
 use Rattle.ss_core.specs.Tree.{LocalExpr, NullExpr, FieldExpr, ElementExpr, LengthExpr, NegateExpr, NotExpr, BinaryExpr, IffExpr, IsExpr, AsExpr, CastExpr, CalleeTree, Dispatched, NewStmt, NewArrayStmt, CallStmt, IfStmt, NoCode}
 use Rattle.ss_core.specs.View.{code_of}
 use Rattle.ss_core.specs.Chain.{is_declared}
+use Rattle.ss_core.specs.Types.{nullable}
 use Rattle.ss_typed.specs.Tree.{ExprTree, IntOf, BoolOf, NullOf, ThisOf, LocalOf, ResultOf, BoundOf, OldOf, QuantifiedOf, StateOf, OwnersOf, IffOf, ImpliesOf, BinaryOf, IsOf, AsOf, NegateOf, NotOf, CastOf, FieldOf, ElementOf, LengthOf, NewOf, NewArrayOf, CallOf, StaticOf, BaseOf, Arguments, NoMore, Argument}
 use Rattle.ss_typed.specs.Types.{class_type, type_of}
 use Rattle.ss_typed.specs.Types as typed
@@ -168,7 +169,7 @@ module _ (z : Frame) (agrees : Agrees z) (constructs : Bool) where
 
   -- it has the type, or that which is wanted of null
   abbrev pub Holds : core.ExprTree → Option Ty → Ty → Type 0
-  Holds a t w = IsIn a (bare t) ⊎ ((t ≡ Some ty.Null) × IsIn a (Some (types.plain w)))
+  Holds a t w = IsIn a (bare t) ⊎ ((t ≡ Some ty.Null) × IsIn a (Some (nullable w)))
 
   abbrev pub Values : Valued → Option Ty → Ty → Type 0
   Values v t w = Passing z v.code × Holds v.value t w
@@ -196,7 +197,7 @@ module _ (z : Frame) (agrees : Agrees z) (constructs : Bool) where
 
   pub holds_type : (a : core.ExprTree) (t : Option Ty) (u : Ty) → Holds a t u → has_fitting C t u ≡ true → has_type_in C z.body a u ≡ true
   holds_type a t u h g =
-      ⊎_elim (λ i. bare_has_type a t u i g) (λ n. ap (λ o. has_fitting C o u) (code_is z agrees a (Some (types.plain u)) n.1) ∙ fitting_itself C t u g) h
+      ⊎_elim (λ i. bare_has_type a t u i g) (λ n. ap (λ o. has_fitting C o u) (code_is z agrees a (Some (nullable u)) n.1) ∙ fitting_itself C t u g) h
 
   pub condition_is : (a : core.ExprTree) (t : Option Ty) → IsIn a (bare t) → is_bool t ≡ true → is_condition C z.body in_code a ≡ true
   condition_is a t i h = ap is_bool (code_is z agrees a (bare t) i) ∙ bare_bool t ∙ h
@@ -227,7 +228,7 @@ module _ (z : Frame) (agrees : Agrees z) (constructs : Bool) where
   made_last ms t m = m (length ms) t (last_at ms t)
 
   -- in a temporary of this type
-  pub kept_in : (p : Place) (u : Ty) (l : Lifted) (t : Option Ty) → Lifts l t → has_fitting C t u ≡ true → HasMade z (l.made ++ u ∷ []) → Passing z (in_temporary z.numbers p u l).code × IsIn (in_temporary z.numbers p u l).value (Some (types.plain u))
+  pub kept_in : (p : Place) (u : Ty) (l : Lifted) (t : Option Ty) → Lifts l t → has_fitting C t u ≡ true → HasMade z (l.made ++ u ∷ []) → Passing z (in_temporary z.numbers p u l).code × IsIn (in_temporary z.numbers p u l).value (Some (nullable u))
   kept_in p u l t h g m =
       let at = made_last l.made u m in
       let x = next z.numbers l.made in
@@ -519,7 +520,7 @@ module _ (z : Frame) (agrees : Agrees z) (constructs : Bool) where
           let a = (operand z.numbers any_object e (lifted s e) made).value in
           let i = holds_exactly a (type_of e) any_object v.1 (no_null_class test (type_of e) r.has) in
           let has : has_class test (type_in z agrees a) ≡ true = ap (has_class test) i.1 ∙ bare_class test (type_of e) ∙ r.has in
-          (v.0, (i.0, ap (types.field_read_type C (type_in z agrees a)) r.there ∙ (rw has refl) ∙ ap (λ u. Some (types.plain u)) r.type))
+          (v.0, (i.0, ap (types.field_read_type C (type_in z agrees a)) r.there ∙ (rw has refl) ∙ ap (λ u. Some (nullable u)) r.type))
       lifted_passes (ElementOf p a b) f made c m =
           let words = none_left (misplaced NoWord a) (misplaced NoWord b) f.1 in
           let out = and_parts (can_lift a) (can_lift b) f.2 in

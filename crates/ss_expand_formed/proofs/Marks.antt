@@ -9,7 +9,8 @@ use Rattle.ss_core.specs.declared.names.Place.{Place}
 use Rattle.ss_core.specs.declared.names.Ty.{Ty}
 use Rattle.ss_core.specs.declared.names.Ty.TheVariants as ty
 use Rattle.ss_core.specs.Tree as core
-use Rattle.ss_core.specs.Chain.{is_type, is_superclass, is_class, has_numbers}
+use Rattle.ss_core.specs.Chain.{is_type, is_superclass, is_class, has_numbers, fields_of}
+use Rattle.ss_core.specs.Types.{is_class_type}
 use Rattle.ss_ast.specs.Expressions.{NameTree}
 use Rattle.ss_ast.specs.Programs as written
 use Rattle.ss_ast.specs.Programs.{ClassTree, ProgramTree}
@@ -17,8 +18,7 @@ use Rattle.ss_faults.specs.declared.Fault.{Fault}
 use Rattle.ss_tables.specs.Members.{MethodTree, ConstructorTree, has_attribute, fields_in}
 use Rattle.ss_tables.specs.Members as tables
 use Rattle.ss_typed.specs.Tree.{ParamTree, MembersTree, BodyTree, TypedTree}
-use Rattle.ss_paths.specs.Fields as paths
-use Rattle.ss_owners_rules.specs.Attributes.{Names, is_reference, is_mark, on_field, on_param, on_body, bad_behind, bad_attributes}
+use Rattle.ss_owners_rules.specs.Attributes.{Names, is_mark, on_field, on_param, on_body, bad_behind, bad_attributes}
 use Rattle.ss_owners_rules.specs.Words.{NoWord, misplaced_if}
 use Rattle.ss_owners_rules.specs.Program.{bad_attribute, at, of_words, of_attributes, invariants_faults, field_faults, fields_faults, class_faults, classes_faults, param_faults, params_faults, misplaced_body, body_faults, bodies_faults, ownership_faults}
 use Rattle.ss_resolver_names_rules.specs.Programs.{program_faults}
@@ -27,7 +27,7 @@ use Rattle.ss_resolver_rules.specs.Programs.{mark_of, field, class, field_member
 use Rattle.ss_expand_rules.specs.Program.{table, Origin}
 use Rattle.ss_expand_rules.specs.Bodies.{param_of}
 use Rattle.ss_store_rules.specs.Locals.{types_of}
-use Rattle.ss_store_rules.specs.Typed.{is_plain, is_class_type, is_field, is_local, are_declared}
+use Rattle.ss_store_rules.specs.Typed.{is_plain, is_field, is_local, are_declared}
 use Rattle.ss_expand_formed.specs.Laws.{core_of}
 use Rattle.ss_expand_formed.proofs.Facts.{none_left, all_at}
 use Rattle.ss_expand_formed.proofs.Bodies.{IsMade, WrittenConstructor, ImplicitConstructor, WrittenMethod, Wrapper, origin_of}
@@ -43,7 +43,7 @@ none_of : (f : Place → Fault) (ps : List Place) → map f ps ≡ [] → ps ≡
 none_of f [] h = refl
 none_of f (q ∷ ps) h = absurd (let z : ⊥ = cc in z)
 
-class_type : (t : Ty) → is_reference t ≡ true → is_class_type t ≡ true
+class_type : (t : Ty) → is_class_type t ≡ true → is_class_type t ≡ true
 class_type ty.Int h = absurd (false≢true h)
 class_type ty.Bool h = absurd (false≢true h)
 class_type ty.Null h = absurd (false≢true h)
@@ -60,7 +60,7 @@ may_stand may a more h =
 -- a field without attributes isn't marked
 marked : (t : Ty) (attributes : List NameTree) → bad_attributes (on_field t) attributes ≡ [] → (is_plain (mark_of attributes) || is_class_type t) ≡ true
 marked t [] h = refl
-marked t (a ∷ more) h = or_right (is_plain (mark_of (a ∷ more))) _ (class_type t (and_parts (is_reference t) (is_mark a.text) (may_stand (on_field t) a more h)).0)
+marked t (a ∷ more) h = or_right (is_plain (mark_of (a ∷ more))) _ (class_type t (and_parts (is_class_type t) (is_mark a.text) (may_stand (on_field t) a more h)).0)
 
 -- ---- fields
 
@@ -97,8 +97,8 @@ class_fields p names none k y at =
     let c : slice_get (resolved p).classes k ≡ Some (class p.classes k w.tree) = each_at (class p.classes) 0 p.classes k w.tree w.there ∙ ap (λ n. Some (class p.classes n w.tree)) z in
     let faults : class_faults (resolved p) k (members p.classes k w.tree) ≡ [] = subst (λ n. class_faults (resolved p) n (members p.classes k w.tree) ≡ []) z (class_none (resolved p) 0 (resolved p).members k (members p.classes k w.tree) none m) in
     let fs = fields_in w.tree.members in
-    let of_fields = (none_left (fields_faults (map (field_member (class_env p.classes k)) fs) (paths.fields_in (slice_get (resolved p).classes k))) (invariants_faults _ (members p.classes k w.tree).invariants) faults).0 in
-    let mine = subst (λ o. fields_faults (map (field_member (class_env p.classes k)) fs) (paths.fields_in o) ≡ []) c of_fields in
+    let of_fields = (none_left (fields_faults (map (field_member (class_env p.classes k)) fs) (fields_of (slice_get (resolved p).classes k))) (invariants_faults _ (members p.classes k w.tree).invariants) faults).0 in
+    let mine = subst (λ o. fields_faults (map (field_member (class_env p.classes k)) fs) (fields_of o) ≡ []) c of_fields in
     let numbers = all_at (has_numbers cs) cs k y (has_chain p names).numbers at in
     let types = (and_parts (is_superclass cs y.above && list_all (is_class cs) y.also) (list_all (λ (f : core.FieldTree). is_type cs f.ty) y.fields) numbers).1 in
     are_fields cs y.fields types (subst (λ xs. list_all (λ (f : core.FieldTree). is_plain f.mark || is_class_type f.ty) xs ≡ true) (sym w.fields) (marked_fields p.classes (class_env p.classes k) fs mine))
@@ -136,7 +136,7 @@ on_reference q h none = by q.captured q.attributes h none
     by : (c : Bool) (attributes : List NameTree) → (not c || has_some attributes) ≡ true → bad_attributes (on_param q.ty) attributes ≡ [] → (not c || is_class_type q.ty) ≡ true
     by false attributes h none = refl
     by true [] h none = absurd (false≢true h)
-    by true (a ∷ more) h none = class_type q.ty (and_parts (is_reference q.ty) (bytes_eq a.text (codes "Captured")) (may_stand (on_param q.ty) a more none)).0
+    by true (a ∷ more) h none = class_type q.ty (and_parts (is_class_type q.ty) (bytes_eq a.text (codes "Captured")) (may_stand (on_param q.ty) a more none)).0
 
 are_params : (cs : List core.ClassTree) (qs : List ParamTree) → are_declared cs (types_of (map param_of qs)) ≡ true → list_all (λ (q : ParamTree). not q.captured || has_some q.attributes) qs ≡ true → params_faults qs ≡ [] →
     list_all (is_local cs) (map param_of qs) ≡ true

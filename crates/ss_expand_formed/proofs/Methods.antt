@@ -6,13 +6,14 @@ use Rattle.std.specs.Str.{bytes_eq}
 use Rattle.std.proofs.lemmas.Bool.{and_parts, false≢true, cases_Bool}
 use Rattle.std.proofs.lemmas.Option.{same_Some}
 use Rattle.std.proofs.lemmas.Slice.Eq.{bytes_eq-Decides}
+use Rattle.std.specs.Option.{option_or}
 use Rattle.ss_core.specs.Tree as core
 use Rattle.ss_core.specs.Tree.{EntryTree}
 use Rattle.ss_core.specs.Chain.{is_type}
 use Rattle.ss_ast.specs.Expressions.{TypeTree}
 use Rattle.ss_ast.specs.Programs.{ParamTree, ClassTree, ProgramTree}
 use Rattle.ss_tables.specs.Members.{MethodTree, ConstructorTree, methods_in, constructors_in, method_in}
-use Rattle.ss_tables.specs.Classes.{Declared, declared_in, or_else, members_in, members_at, first_method, method_of, chain, class_number}
+use Rattle.ss_tables.specs.Classes.{Declared, declared_in, members_in, members_at, first_method, method_of, chain, class_number}
 use Rattle.ss_tables.specs.Statics.{result_type, params_of_first, constructor_params}
 use Rattle.ss_typed.specs.Tree.{BodyTree}
 use Rattle.ss_typed.specs.Tree as typed
@@ -136,7 +137,7 @@ module _ (p : ProgramTree) (n : List ℕ) where
       find_front is_n (map (overridden cs k) rest) (added cs k rest) (entry_of j) (overridden_some k rest (entry_of j) g ∙ ap Some here)
 
   -- the table of a class has the nearest method of the name
-  entry_first : (k : ℕ) (ks : List ℕ) (m : Declared MethodTree) (o : Option MethodTree) → method_in (members_at cs k) n ≡ o → (first_method cs n ks ≡ Some m → find is_n (table_along cs ks) ≡ Some (entry_of m.class)) → or_else (declared_in k o) (first_method cs n ks) ≡ Some m →
+  entry_first : (k : ℕ) (ks : List ℕ) (m : Declared MethodTree) (o : Option MethodTree) → method_in (members_at cs k) n ≡ o → (first_method cs n ks ≡ Some m → find is_n (table_along cs ks) ≡ Some (entry_of m.class)) → option_or (declared_in k o) (first_method cs n ks) ≡ Some m →
       find is_n (table_along cs (k ∷ ks)) ≡ Some (entry_of m.class)
   entry_first k ks m None e rest h = other_entry k m.class (table_along cs ks) e (rest h)
   entry_first k ks m (Some d) e rest h = own_entry k (table_along cs ks) d e ∙ ap (λ (z : Declared MethodTree). Some (entry_of z.class)) (same_Some _ _ h)
@@ -147,7 +148,7 @@ module _ (p : ProgramTree) (n : List ℕ) where
 
   -- ---- the method itself
 
-  method_of_first : (m : Declared MethodTree) (k : ℕ) (ks : List ℕ) (o : Option MethodTree) → method_in (members_at cs k) n ≡ o → (first_method cs n ks ≡ Some m → method_in (members_at cs m.class) n ≡ Some m.member) → or_else (declared_in k o) (first_method cs n ks) ≡ Some m → method_in (members_at cs m.class) n ≡ Some m.member
+  method_of_first : (m : Declared MethodTree) (k : ℕ) (ks : List ℕ) (o : Option MethodTree) → method_in (members_at cs k) n ≡ o → (first_method cs n ks ≡ Some m → method_in (members_at cs m.class) n ≡ Some m.member) → option_or (declared_in k o) (first_method cs n ks) ≡ Some m → method_in (members_at cs m.class) n ≡ Some m.member
   method_of_first m k ks None e rest g = rest g
   method_of_first m k ks (Some d) e rest g =
       let same = same_Some _ _ g in

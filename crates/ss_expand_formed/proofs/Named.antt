@@ -21,7 +21,7 @@ use Rattle.ss_expand_formed.proofs.Facts.{all_at, not_true}
 use Rattle.ss_expand_formed.proofs.Resolved.{bodies_pass, method_is}
 use Rattle.ss_expand_formed.proofs.ChainLaw.{has_chain}
 use Rattle.ss_expand_formed.proofs.Normal.{HasContract}
-use Rattle.ss_expand_formed.specs.ContractLaws.{HaveNamed}
+use Rattle.ss_expand_formed.specs.ContractParts.{HaveNamed}
 use Rattle.ss_expand_formed.proofs.Origins.{Declares, OfConstructor, OfImplicit, OfTable, contract_of}
 use Rattle.ss_expand_formed.proofs.ContractsConditions.{term_here}
 use Rattle.ss_expand_formed.proofs.Terms.{AllTerms, TermsIn, terms_of}

@@ -2,9 +2,9 @@
 use Rattle.std.proofs.Common.{◌≡◌, ℕ, suc, ◌<◌, List, [], ◌∷◌, Bool, true, false, Option, Some, None, subst, arith}
 use Rattle.std.specs.Prelude.{slice_get, if◌then◌else◌}
 use Rattle.std.specs.Str.{bytes_eq}
+use Rattle.std.specs.Option.{option_or}
 use Rattle.ss_core.specs.declared.names.Ty.{Ty}
 use Rattle.ss_core.specs.declared.names.Ty.TheVariants as ty
-use Rattle.ss_tables.specs.Classes.{or_else}
 use Rattle.ss_tables.specs.Scopes.{Local, Locals}
 use Rattle.ss_tables.specs.Named.{named_in, named_among}
 use Rattle.ss_resolver_rules.specs.Names.{Known_names}
@@ -68,7 +68,7 @@ module _ (types : List Ty) where
       subst (λ z. Meets k (if bytes_eq n l.0 then Some l.1 else named_in ls n) (if bytes_eq n z then Some m.1 else named_in ms n)) h.0
       (meets_if k (bytes_eq n l.0) l.1 m.1 (named_in ls n) (named_in ms n) h.1 (meets_in k ls ms n h.2))
 
-  pub meets_else : (k : ℕ) (l o : Option Local) (m q : Option Known) → Meets k l m → Meets k o q → Meets k (or_else l o) (or_else m q)
+  pub meets_else : (k : ℕ) (l o : Option Local) (m q : Option Known) → Meets k l m → Meets k o q → Meets k (option_or l o) (option_or m q)
   meets_else k None o None q h g = g
   meets_else k None o (Some m) q h g = absurd h
   meets_else k (Some l) o None q h g = absurd h

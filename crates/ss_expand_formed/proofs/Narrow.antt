@@ -9,6 +9,7 @@ use Rattle.ss_core.specs.declared.expr.Operator.TheVariants as op
 use Rattle.ss_core.specs.Tree as core
 use Rattle.ss_core.specs.Chain.{IsChain}
 use Rattle.ss_core.proofs.Chains.{below_trans}
+use Rattle.ss_core.specs.Types.{nullable}
 use Rattle.ss_typed.specs.Tree.{ExprTree, IntOf, BoolOf, NullOf, ThisOf, LocalOf, ResultOf, BoundOf, IffOf, ImpliesOf, BinaryOf, IsOf, AsOf, NegateOf, NotOf, CastOf, FieldOf, ElementOf, LengthOf, OldOf, QuantifiedOf, StateOf, OwnersOf, NewOf, NewArrayOf, CallOf, StaticOf, BaseOf, TypedTree}
 use Rattle.ss_typed.specs.Types.{class_type, type_of}
 use Rattle.ss_expand_rules.specs.Numbers.{Numbers, number, plain}
@@ -146,7 +147,7 @@ module _ (P : TypedTree) (C : List core.ClassTree) (chain : IsChain C) (x : Cont
       let test = λ (c : ℕ). below C c r.field.class in
       let over : has_class test (Above k e) ≡ true = ap (has_class test) (exact_type P C x ns ts chain reads exact k e f.0 without) ∙ bare_class test (type_of e) ∙ r.has in
       let here = below_stays C chain r.field.class (Above k e) (In k e) (narrow k e f.0 without) over in
-      Same (ap (field_read_type C (In k e)) r.there ∙ ap (λ b. where_typed b (types.plain r.field.field.ty)) here ∙ sym (ap (field_read_type C (Above k e)) r.there ∙ ap (λ b. where_typed b (types.plain r.field.field.ty)) over))
+      Same (ap (field_read_type C (In k e)) r.there ∙ ap (λ b. where_typed b (nullable r.field.field.ty)) here ∙ sym (ap (field_read_type C (Above k e)) r.there ∙ ap (λ b. where_typed b (nullable r.field.field.ty)) over))
   narrow k (ElementOf p a i) f without =
       let none = or_false (has_call a) (has_call i) without in
       let same = arrays k a f.0 none.0 f.2 (narrow k a f.0 none.0) in

@@ -7,13 +7,13 @@ use Rattle.ss_core.specs.declared.names.Ty.TheVariants as ty
 use Rattle.ss_core.specs.declared.expr.Operator.{Operator}
 use Rattle.ss_core.specs.declared.expr.Operator.TheVariants as op
 use Rattle.ss_core.specs.Tree as core
+use Rattle.ss_core.specs.Types.{is_class_type}
 use Rattle.ss_typed.specs.Tree.{ExprTree, NullOf, ThisOf, LocalOf, ResultOf, IffOf, ImpliesOf, BinaryOf, IsOf, AsOf, NegateOf, NotOf, CastOf, FieldOf, ElementOf, LengthOf, OldOf, NewOf, NewArrayOf, CallOf, StaticOf, BaseOf, Arguments, NoMore, Argument, BodyTree, TypedTree}
 use Rattle.ss_typed.specs.Types.{class_type, type_of}
 use Rattle.ss_paths.specs.Fields as fields
 use Rattle.ss_nonnull_rules.specs.Facts.{is_null}
 use Rattle.ss_owners_rules.specs.Words.{NoWord, misplaced, misplaced_each}
 use Rattle.ss_expand_rules.specs.Program.{above_of}
-use Rattle.ss_expand_rules.specs.Contracts.{is_reference}
 use Rattle.ss_expand_rules.specs.Lifting.{static_class}
 use Rattle.ss_store_rules.specs.Changes.{type_of_field, field_type}
 use Rattle.ss_store_rules.specs.Types as types
@@ -126,7 +126,7 @@ module _ (c : core.CoreTree) (P : TypedTree) (w : BodyTree) (bs : List BodyTree)
     expr_fits (ThisOf q t) h = ap is_non_null_type (typed_at c P w bs 0 (class_type t true) h.fit)
     expr_fits (LocalOf q x t) h =
         and_from _ _ (implied_same (fields.is_non_null t) _ (same_mark t ∙ ap is_non_null_type (sym (meant_at c P w bs x t h.fit))))
-        (ap (λ b. implied b (is_reference t)) (mine_at c P w bs x t h.fit) ∙ implied_and (is_own_of w x) (is_reference t))
+        (ap (λ b. implied b (is_class_type t)) (mine_at c P w bs x t h.fit) ∙ implied_and (is_own_of w x) (is_class_type t))
     expr_fits (ResultOf q t) h = absurd (let words : q ∷ [] ≡ [] = h.words in let x : ⊥ = cc in x)
     expr_fits (OldOf q e) h = absurd (let words : q ∷ misplaced NoWord e ≡ [] = h.words in let x : ⊥ = cc in x)
     expr_fits (IffOf q a d) h = let n = two_fit a d h.fit.0 h.fit.1 h.words h.own in and_from _ _ (expr_fits a n.0) (expr_fits d n.1)

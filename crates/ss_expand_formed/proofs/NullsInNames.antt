@@ -8,6 +8,7 @@ use Rattle.ss_core.specs.declared.names.Ty.{Ty}
 use Rattle.ss_core.specs.declared.names.Ty.TheVariants as ty
 use Rattle.ss_core.specs.Tree as core
 use Rattle.ss_core.specs.Chain.{is_declared, declared, all_fields}
+use Rattle.ss_core.specs.Types.{is_class_type}
 use Rattle.ss_typed.specs.Tree.{ParamTree, BodyTree, TypedTree}
 use Rattle.ss_paths.specs.Fields as fields
 use Rattle.ss_nonnull_rules.specs.NonNull as source
@@ -16,7 +17,7 @@ use Rattle.ss_nonnull_rules.specs.Faults.{parameters, body_of_entry, body_in_tab
 use Rattle.ss_expand_rules.specs.Program.{above_of, table_of, method_at}
 use Rattle.ss_typed.specs.Lookups.{body_at, constructor_of, param_types_in}
 use Rattle.ss_expand_rules.specs.Numbers.{number}
-use Rattle.ss_expand_rules.specs.Contracts.{first_param, is_reference}
+use Rattle.ss_expand_rules.specs.Contracts.{first_param}
 use Rattle.ss_expand_rules.specs.Lifting.{class_of_type}
 use Rattle.ss_expand_rules.specs.Bodies.{first_copy}
 use Rattle.ss_store_rules.specs.Types as types
@@ -154,5 +155,5 @@ module _ (c : core.CoreTree) (P : TypedTree) (w : BodyTree) (bs : List BodyTree)
   own_at x t h o = own_from x t h (from_first x o)
 
   -- a local of the body holds a reference where its type is one
-  pub mine_at : (x : ℕ) (t : Ty) → slice_get X x ≡ Some t → z.mine x ≡ (is_own_of w x && is_reference t)
+  pub mine_at : (x : ℕ) (t : Ty) → slice_get X x ≡ Some t → z.mine x ≡ (is_own_of w x && is_class_type t)
   mine_at x t h = ap (λ o. is_own_of w x && is_reference_type o) (typed_at x t h)

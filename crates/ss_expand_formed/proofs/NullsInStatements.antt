@@ -5,6 +5,7 @@ use Rattle.std.proofs.lemmas.Bool.{and_from, or_left, or_right, eq-eqb, false≢
 use Rattle.ss_core.specs.declared.names.Ty.{Ty}
 use Rattle.ss_core.specs.declared.names.Ty.TheVariants as ty
 use Rattle.ss_core.specs.Tree as core
+use Rattle.ss_core.specs.Types.{is_class_type}
 use Rattle.ss_ast.specs.declared.stmt.AssignOperator.{AssignOperator}
 use Rattle.ss_ast.specs.declared.stmt.AssignOperator.TheVariants as operator
 use Rattle.ss_typed.specs.Tree.{ExprTree, NullOf, LocalOf, FieldOf, Arguments, DeclaratorTree, SimpleTree, AssignOf, StepOf, AloneOf, PrintOf, PrintTextOf, BaseCallOf, InitTree, DeclareFirst, SimpleFirst, BlockTree, BlockOf, StmtTree, InBlock, DeclareOf, SimpleOf, IfOf, IfElseOf, WhileOf, ForOf, ReturnOf, AssertOf, AssumeOf, ExposeOf, EmptyOf, StmtTrees, NoMore, Before, BodyTree, TypedTree}
@@ -15,7 +16,7 @@ use Rattle.ss_nonnull_rules.specs.Facts.{is_null}
 use Rattle.ss_expand_rules.specs.Program.{above_of}
 use Rattle.ss_typed.specs.Lookups.{constructor_of, param_types_in}
 use Rattle.ss_expand_rules.specs.Numbers.{number}
-use Rattle.ss_expand_rules.specs.Contracts.{first_param, is_reference}
+use Rattle.ss_expand_rules.specs.Contracts.{first_param}
 use Rattle.ss_expand_rules.specs.Statements.{result_type}
 use Rattle.ss_store_rules.specs.Types as types
 use Rattle.ss_store_rules.specs.Types.{has_fitting, is_int, is_bool}
@@ -44,7 +45,7 @@ int_unmarked ty.Bool h = absurd (false≢true h)
 int_unmarked ty.Null h = absurd (false≢true h)
 int_unmarked (ty.Ref t n) h = absurd (false≢true h)
 
-int_no_reference : (t : Ty) → is_int (Some t) ≡ true → is_reference t ≡ false
+int_no_reference : (t : Ty) → is_int (Some t) ≡ true → is_class_type t ≡ false
 int_no_reference ty.Int h = refl
 int_no_reference ty.Bool h = absurd (false≢true h)
 int_no_reference ty.Null h = absurd (false≢true h)
@@ -108,7 +109,7 @@ module _ (c : core.CoreTree) (P : TypedTree) (w : BodyTree) (bs : List BodyTree)
   kept l e f o h = refl
 
   counts : (l : ExprTree) → Fit P c.classes X 0 l → is_int (type_of l) ≡ true → is_number z l ≡ true
-  counts (LocalOf q x t) f h = and_from _ _ (int_unmarked t h) (ap not (mine_at c P w bs x t f) ∙ and_without (is_own_of w x) (is_reference t) (int_no_reference t h))
+  counts (LocalOf q x t) f h = and_from _ _ (int_unmarked t h) (ap not (mine_at c P w bs x t f) ∙ and_without (is_own_of w x) (is_class_type t) (int_no_reference t h))
   counts (FieldOf q e k t) f h = int_unmarked t h
   counts l f h = refl
 

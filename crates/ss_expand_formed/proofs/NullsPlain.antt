@@ -7,6 +7,7 @@ use Rattle.ss_core.specs.declared.names.Ty.{Ty}
 use Rattle.ss_core.specs.declared.expr.Operator.{Operator}
 use Rattle.ss_core.specs.declared.expr.Operator.TheVariants as op
 use Rattle.ss_core.specs.Tree as core
+use Rattle.ss_core.specs.Types.{is_class_type}
 use Rattle.ss_typed.specs.Tree.{ExprTree, NullOf, ThisOf, LocalOf, ResultOf, FieldOf, CastOf, OldOf, NotOf, BinaryOf, IsOf, NewOf, NewArrayOf, CallOf, StaticOf, BaseOf}
 use Rattle.ss_paths.specs.Sets.{Set, none, only, either}
 use Rattle.ss_paths.specs.Fields as fields
@@ -17,7 +18,6 @@ use Rattle.ss_nonnull_rules.specs.Facts as told
 use Rattle.ss_nonnull_rules.specs.Facts.{says, the_local, is_null}
 use Rattle.ss_expand_rules.specs.Numbers.{Numbers, number, plain}
 use Rattle.ss_expand_rules.specs.Calls.{has_call}
-use Rattle.ss_expand_rules.specs.Contracts.{is_reference}
 use Rattle.ss_store_rules.specs.Changes.{field_type}
 use Rattle.ss_store_rules.specs.Good.{is_non_null}
 use Rattle.ss_store_rules.specs.NonNull.{is_non_null_type, Facts, no_facts, both, Known, learned, is_local_number, is_null_literal, compared, operation_facts, site_of, is_this_object, is_never_null}
@@ -161,7 +161,7 @@ module _ (z : Frame) where
     pub plain_never : (e : ExprTree) → fits z e ≡ true → has_call e ≡ false → source.is_never_null z.context (Some k) e ≡ true → is_never_null (site_of z.program z.body) l false (plain z.numbers e) ≡ true
     plain_never (ThisOf p t) f n h = or_left _ _ f
     plain_never (LocalOf p x t) f n h =
-        or_more (fields.is_non_null t) (k.facts x) _ _ (implied_true (fields.is_non_null t) _ (and_parts (implied (fields.is_non_null t) (is_non_null_type (local_type z (number z.numbers x)))) (implied (z.mine x) (is_reference t)) f).0) (covers.facts x) h
+        or_more (fields.is_non_null t) (k.facts x) _ _ (implied_true (fields.is_non_null t) _ (and_parts (implied (fields.is_non_null t) (is_non_null_type (local_type z (number z.numbers x)))) (implied (z.mine x) (is_class_type t)) f).0) (covers.facts x) h
     plain_never (FieldOf p e g t) f n h =
         let one = and_parts (implied (fields.is_non_null t) (is_non_null (field_type z.program.classes g))) (reads_set z e g && fits z e) f in
         let two = and_parts (reads_set z e g) (fits z e) one.1 in

@@ -5,10 +5,10 @@ use Rattle.std.proofs.lemmas.Bool.{cases_lt, eq-eqb, ne_eqb, le-leb, lt-leb, le-
 use Rattle.std.proofs.lemmas.List.Sums.{sum_by-cons}
 use Rattle.std.proofs.lemmas.Option.{slice_get_cases}
 use Rattle.ss_core.specs.Tree as core
-use Rattle.ss_core.specs.Chain.{DeclaredField, fields_from}
+use Rattle.ss_core.specs.Chain.{DeclaredField, fields_from, fields_of}
 use Rattle.ss_core.proofs.Fields.{first_class, later_class}
 use Rattle.ss_typed.specs.Tree.{TypedTree}
-use Rattle.ss_paths.specs.Fields.{fields_in, field_count, field_numbers, is_among}
+use Rattle.ss_paths.specs.Fields.{field_count, field_numbers, is_among}
 use Rattle.ss_typed.specs.Lookups.{class_place}
 use Rattle.ss_expand_rules.specs.Program.{field_at}
 
@@ -38,10 +38,10 @@ and_none true b h = h
 and_none false b h = refl
 
 -- among those of the class that stands k places on
-pub class_fields : (n : ℕ) (cs : List core.ClassTree) (k f : ℕ) → is_declared_in (n + 2 * k) (slice_get (fields_from n cs) f) ≡ among (sum_by field_count (take k cs)) (length (fields_in (slice_get cs k))) f
+pub class_fields : (n : ℕ) (cs : List core.ClassTree) (k f : ℕ) → is_declared_in (n + 2 * k) (slice_get (fields_from n cs) f) ≡ among (sum_by field_count (take k cs)) (length (fields_of (slice_get cs k))) f
 class_fields n [] k f = none_among k f
   where
-    none_among : (k f : ℕ) → false ≡ among (sum_by field_count (take k [])) (length (fields_in (slice_get [] k))) f
+    none_among : (k f : ℕ) → false ≡ among (sum_by field_count (take k [])) (length (fields_of (slice_get [] k))) f
     none_among k f = sym (and_none (nat_le (sum_by field_count (take k [])) f) (nat_lt (f - sum_by field_count (take k [])) 0) (le-ltb (f - sum_by field_count (take k [])) 0 (omega arith)))
 class_fields n (c ∷ cs) zero f =
     let same : n + 2 * 0 ≡ n = omega arith in
@@ -62,7 +62,7 @@ class_fields n (c ∷ cs) zero f =
 class_fields n (c ∷ cs) (suc k) f =
     let t = n + 2 * suc k in
     let m = sum_by field_count (take k cs) in
-    let count = length (fields_in (slice_get cs k)) in
+    let count = length (fields_of (slice_get cs k)) in
     let sum : sum_by field_count (take (suc k) (c ∷ cs)) ≡ length c.fields + m = sum_by-cons field_count c (take k cs) in
     let next : n + 2 * suc k ≡ n + 2 + 2 * k = omega arith in
     ⊎_elim
@@ -93,4 +93,4 @@ class_fields n (c ∷ cs) (suc k) f =
 pub same_fields : (p : TypedTree) (k f : ℕ) → is_declared_in (4 + 2 * k) (field_at p f) ≡ is_among (field_numbers p (4 + 2 * k)) f
 same_fields p k f =
     let place : class_place (4 + 2 * k) ≡ k = omega arith in
-    class_fields 4 p.classes k f ∙ sym (ap (λ i. among (sum_by field_count (take i p.classes)) (length (fields_in (slice_get p.classes i))) f) place)
+    class_fields 4 p.classes k f ∙ sym (ap (λ i. among (sum_by field_count (take i p.classes)) (length (fields_of (slice_get p.classes i))) f) place)

@@ -9,12 +9,13 @@ use Rattle.std.proofs.lemmas.List.{length-map}
 use Rattle.std.proofs.lemmas.List.Folds.{find_at}
 use Rattle.std.proofs.lemmas.List.Sums.{sum_by-cons}
 use Rattle.std.proofs.lemmas.Option.{same_Some}
+use Rattle.std.specs.Option.{option_or}
 use Rattle.ss_core.specs.declared.names.Place.{Place}
 use Rattle.ss_core.specs.Tree as core
 use Rattle.ss_core.specs.Chain.{DeclaredField, in_class}
 use Rattle.ss_ast.specs.Programs.{ParamTree, ClassTree, ProgramTree}
 use Rattle.ss_tables.specs.Members.{FieldTree, fields_in, field_in}
-use Rattle.ss_tables.specs.Classes.{declared_in, or_else, members_in, members_at, chain_from, first_field, field_of, above}
+use Rattle.ss_tables.specs.Classes.{declared_in, members_in, members_at, chain_from, first_field, field_of, above}
 use Rattle.ss_tables.specs.Scopes.{Scope, Locals, local_named, class_scope, param_scope, enter}
 use Rattle.ss_tables.specs.Named.{named_in, with_named}
 use Rattle.ss_tables.specs.Scopes as scopes
@@ -177,7 +178,7 @@ none_known e s n h none =
     let nothing : named_in e.inner n ≡ None = none_of (named_in e.inner n) (same ∙ ap is_some here) in
     rw (h.around, nothing) refl
   where
-    alone : (o : Option scopes.Local) → or_else None (or_else o None) ≡ None → o ≡ None
+    alone : (o : Option scopes.Local) → option_or None (option_or o None) ≡ None → o ≡ None
     alone None i = refl
     alone (Some x) i = absurd (let z : ⊥ = cc in z)
 
@@ -198,7 +199,7 @@ module _ (p : ProgramTree) (k : ℕ) (c : ClassTree) (at : slice_get p.classes k
 
       by : (m : ℕ) → 0 < m → first_field p.classes n (chain_from p.classes m (Some k)) ≡ Some (record { class = k; member = f })
       by zero l = absurd (omega arith)
-      by (suc m) l = ap (λ o. or_else (declared_in k o) (first_field p.classes n (chain_from p.classes m (above p.classes k)))) h
+      by (suc m) l = ap (λ o. option_or (declared_in k o) (first_field p.classes n (chain_from p.classes m (above p.classes k)))) h
 
   -- its number is that of one of the class
   name_own : (n : List ℕ) (f : FieldTree) → field_in (members_at p.classes k) n ≡ Some f → is_declared_in (4 + 2 * k) (field_at (resolved p) (field_id p.classes k f.name.text)) ≡ true

@@ -3,10 +3,10 @@ use Rattle.std.proofs.Common.{◌≡◌, ℕ, zero, suc, ◌+◌, List, [], ◌�
 use Rattle.std.specs.Prelude.{slice_get}
 use Rattle.std.proofs.lemmas.Option.{same_Some}
 use Rattle.ss_core.specs.declared.names.Place.{Place}
+use Rattle.ss_core.specs.Chain.{fields_of}
 use Rattle.ss_ast.specs.Programs.{ClassTree, ProgramTree}
 use Rattle.ss_tables.specs.Members.{FieldTree, fields_in}
 use Rattle.ss_typed.specs.Tree.{BodyTree, MembersTree, TypedTree}
-use Rattle.ss_paths.specs.Fields as paths
 use Rattle.ss_owners_rules.specs.Words.{NoWord, Questions, EveryWord, misplaced_in_all, misplaced_if, misplaced_in}
 use Rattle.ss_owners_rules.specs.Attributes.{on_field, on_body, bad_attributes}
 use Rattle.ss_owners_rules.specs.Program.{of_words, of_attributes, field_faults, fields_faults, invariants_faults, class_faults, classes_faults, params_faults, misplaced_modified, misplaced_base, misplaced_body, body_faults, bodies_faults, ownership_faults}
@@ -69,5 +69,5 @@ field_worded p owned k c there i f g =
     let d : slice_get (resolved p).classes k ≡ Some (class p.classes k c) = each_at (class p.classes) 0 p.classes k c there ∙ ap (λ n. Some (class p.classes n c)) z in
     let faults : class_faults (resolved p) k (members p.classes k c) ≡ [] = subst (λ n. class_faults (resolved p) n (members p.classes k c) ≡ []) z (class_none (resolved p) 0 (resolved p).members none k (members p.classes k c) m) in
     let fs = fields_in c.members in
-    let of_fields = (none_left (fields_faults (map (field_member (class_env p.classes k)) fs) (paths.fields_in (slice_get (resolved p).classes k))) (invariants_faults _ (members p.classes k c).invariants) faults).0 in
-    fields_worded p.classes (class_env p.classes k) fs (subst (λ o. fields_faults (map (field_member (class_env p.classes k)) fs) (paths.fields_in o) ≡ []) d of_fields) i f g
+    let of_fields = (none_left (fields_faults (map (field_member (class_env p.classes k)) fs) (fields_of (slice_get (resolved p).classes k))) (invariants_faults _ (members p.classes k c).invariants) faults).0 in
+    fields_worded p.classes (class_env p.classes k) fs (subst (λ o. fields_faults (map (field_member (class_env p.classes k)) fs) (fields_of o) ≡ []) d of_fields) i f g

@@ -10,6 +10,7 @@ use Rattle.ss_core.specs.declared.expr.Operator.TheVariants as op
 use Rattle.ss_core.specs.Tree as core
 use Rattle.ss_core.specs.Chain.{IsChain}
 use Rattle.ss_core.proofs.Chains.{below_trans}
+use Rattle.ss_core.specs.Types.{nullable}
 use Rattle.ss_typed.specs.Tree.{ExprTree, IntOf, BoolOf, NullOf, ThisOf, LocalOf, ResultOf, BoundOf, IffOf, ImpliesOf, BinaryOf, IsOf, AsOf, NegateOf, NotOf, CastOf, FieldOf, ElementOf, LengthOf, OldOf, QuantifiedOf, StateOf, OwnersOf, NewOf, NewArrayOf, CallOf, StaticOf, BaseOf, TypedTree}
 use Rattle.ss_typed.specs.Types.{class_type, type_of}
 use Rattle.ss_typed.specs.Types as typed
@@ -25,7 +26,7 @@ use Rattle.ss_expand_formed.proofs.Fit.{Context, Fit}
 -- ---- types without their `!`
 
 abbrev pub bare : Option Ty → Option Ty
-bare t = option_map types.plain t
+bare t = option_map nullable t
 
 pub bare_int : (t : Option Ty) → is_int (bare t) ≡ is_int t
 bare_int None = refl
@@ -55,7 +56,7 @@ bare_class test (Some ty.Bool) = refl
 bare_class test (Some ty.Null) = refl
 bare_class test (Some (ty.Ref c n)) = refl
 
-pub bare_fits : (C : List core.ClassTree) (a t : Ty) → fits_type C (types.plain a) t ≡ fits_type C a t
+pub bare_fits : (C : List core.ClassTree) (a t : Ty) → fits_type C (nullable a) t ≡ fits_type C a t
 bare_fits C ty.Int t = refl
 bare_fits C ty.Bool t = refl
 bare_fits C ty.Null t = refl
@@ -68,7 +69,7 @@ pub bare_fitting : (C : List core.ClassTree) (a : Option Ty) (t : Ty) → has_fi
 bare_fitting C None t = refl
 bare_fitting C (Some a) t = bare_fits C a t
 
-operation_plain : (o : Operator) → types.plain (typed.operation_type o) ≡ typed.operation_type o
+operation_plain : (o : Operator) → nullable (typed.operation_type o) ≡ typed.operation_type o
 operation_plain op.Or = refl
 operation_plain op.And = refl
 operation_plain op.Equal = refl
@@ -84,10 +85,10 @@ operation_plain op.Divide = refl
 operation_plain op.Remainder = refl
 
 -- the element of an array is of the type that the resolved program has for it
-element_plain : (c : ℕ) → types.plain (element_type c) ≡ element_type c
+element_plain : (c : ℕ) → nullable (element_type c) ≡ element_type c
 element_plain c = of_one (c == 1) (c == 2) (c == 3)
   where
-    of_one : (a b d : Bool) → types.plain (if a then ty.Int else if b then ty.Bool else if d then ty.Ref (record { 0 = 0 }) false else ty.Ref (record { 0 = c - 1 }) false) ≡ (if a then ty.Int else if b then ty.Bool else if d then ty.Ref (record { 0 = 0 }) false else ty.Ref (record { 0 = c - 1 }) false)
+    of_one : (a b d : Bool) → nullable (if a then ty.Int else if b then ty.Bool else if d then ty.Ref (record { 0 = 0 }) false else ty.Ref (record { 0 = c - 1 }) false) ≡ (if a then ty.Int else if b then ty.Bool else if d then ty.Ref (record { 0 = 0 }) false else ty.Ref (record { 0 = c - 1 }) false)
     of_one true b d = refl
     of_one false true d = refl
     of_one false false true = refl
@@ -261,7 +262,7 @@ module _ (P : TypedTree) (C : List core.ClassTree) (x : Context) (ns : Numbers) 
       let r = f.1 in
       inl (ap (types.field_read_type C (In k e)) r.there
       ∙ (rw (lower_below C (In k e) (type_of e) chain r.field.class (plain_type k e f.0 without) r.has) refl)
-      ∙ ap (λ u. Some (types.plain u)) r.type)
+      ∙ ap (λ u. Some (nullable u)) r.type)
   plain_type k (ElementOf p a i) f without =
       let none = or_false (has_call a) (has_call i) without in
       inl (ap (λ b. if b then element_of C (In k a) else None) (int_in k i (plain_type k i f.1 none.1) f.3)

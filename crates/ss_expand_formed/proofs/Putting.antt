@@ -8,9 +8,10 @@ use Rattle.ss_core.specs.declared.names.Ty.TheVariants as ty
 use Rattle.ss_core.specs.Tree as core
 use Rattle.ss_core.specs.Tree.{LocalExpr, CalleeTree, BaseConstructor, NoCode}
 use Rattle.ss_core.specs.View.{code_of}
+use Rattle.ss_core.specs.Types.{nullable}
 use Rattle.ss_nonnull_rules.specs.NonNull as source
 use Rattle.ss_expand_rules.specs.Numbers.{number}
-use Rattle.ss_expand_rules.specs.Lifting.{Source, Pure, Created, CreatedArray, Called, put, nullable, temporary_type}
+use Rattle.ss_expand_rules.specs.Lifting.{Source, Pure, Created, CreatedArray, Called, put, temporary_type}
 use Rattle.ss_store_rules.specs.Good.{is_non_null}
 use Rattle.ss_store_rules.specs.Typed.{constructor_of, callee_of}
 use Rattle.ss_store_rules.specs.Paths.{Flow, behind, at_end, Check, holds_at, holds_along}

@@ -14,7 +14,7 @@ use Rattle.ss_ast.specs.Expressions.{NameTree, Arguments, NoMore, Argument}
 use Rattle.ss_ast.specs.Expressions as text
 use Rattle.ss_ast.specs.Programs.{ProgramTree}
 use Rattle.ss_tables.specs.Words.{is_owner_word, is_state_read, is_state_call}
-use Rattle.ss_tables.specs.Statics.{Receiver, TheConsole, TheOwner, TheBase, AClass, AValue, Callee, AMethod, APrint, AWord, ABase, NoCallee, has_levels, may_have_levels, owner_count, member_callee, count, takes, called_with, call_type}
+use Rattle.ss_tables.specs.Statics.{Receiver, TheConsole, TheOwner, TheBase, AClass, AValue, Callee, AMethod, APrint, AWord, ABase, NoCallee, has_levels, may_have_levels, level_callee, owner_count, member_callee, count, takes, called_with, question_type, call_type}
 use Rattle.ss_tables.specs.Statics as statics
 use Rattle.ss_typed.specs.Tree.{StateOf, OwnersOf}
 use Rattle.ss_typed.specs.Types.{type_of}
@@ -39,6 +39,19 @@ level_reference ty.Int h = absurd (false≢true h)
 level_reference ty.Bool h = absurd (false≢true h)
 level_reference ty.Null h = refl
 level_reference (ty.Ref c n) h = refl
+
+-- what is known to be a reference is asked with one argument
+level_known : (o : Option Ty) → is_some o ≡ true → may_have_levels o ≡ true → level_callee o ≡ AWord 1
+level_known None e h = absurd (false≢true e)
+level_known (Some t) e h = ap (λ (b : Bool). if b then AWord 1 else NoCallee) h
+
+owners_type : (n : List ℕ) → question_type (owner_count n) ≡ Some ty.Bool
+owners_type n = by (bytes_eq n (codes "Is")) (bytes_eq n (codes "Same"))
+  where
+    by : (a b : Bool) → question_type (if a then 3 else if b then 2 else 1) ≡ Some ty.Bool
+    by true b = refl
+    by false true = refl
+    by false false = refl
 
 question_word : (C : List core.ClassTree) (n : List ℕ) (t : ℕ) → is_class C t ≡ true → is_word C (state_question n t) ≡ true
 question_word C n t h = by (bytes_eq n (codes "IsLevel"))
@@ -93,7 +106,7 @@ module _ (p : ProgramTree) (x : Context) (is_known : IsKnown p x) (static lacks 
       let asked = asks (is_state_read n.text) (is_state_call n.text) _ call wrong in
       let some : is_some (statics.static (scope_at p a) y) ≡ true = ⊎_elim (λ z. z) (λ z. absurd (false≢true (sym asked.0 ∙ z))) (or_cases (is_some (statics.static (scope_at p a) y)) (has_no_value (refusing static static (scope_at p a)) y) s.valued) in
       let level : may_have_levels (statics.static (scope_at p a) y) ≡ true = ap may_have_levels (sym same) ∙ asked.1 in
-      let callee_is : member_callee (scope_at p a) n.text (AValue (statics.static (scope_at p a) y)) ≡ AWord 1 = rw (call, level) refl in
+      let callee_is : member_callee (scope_at p a) n.text (AValue (statics.static (scope_at p a) y)) ≡ AWord 1 = rw call (level_known (statics.static (scope_at p a) y) some level) in
       let tree_is : expr (env_at p a) (text.CallOf q (text.MemberOf m y n) es) ≡ StateOf q (state_question n.text (first_class (env_at p a) es)) (expr (env_at p a) y) =
       ap (λ k. called_behind (env_at p a) q k (expr (env_at p a) y) n.text es (args (env_at p a) es) (member_callee (scope_at p a) n.text k)) r
       ∙ ap (called_behind (env_at p a) q (AValue (statics.static (scope_at p a) y)) (expr (env_at p a) y) n.text es (args (env_at p a) es)) callee_is in
@@ -222,7 +235,7 @@ module _ (p : ProgramTree) (x : Context) (is_known : IsKnown p x) (static lacks 
       ap (λ k. called_behind (env_at p a) q k (expr (env_at p a) y) n.text es (args (env_at p a) es) (member_callee (scope_at p a) n.text k)) r
       ∙ ap (called_behind (env_at p a) q TheOwner (expr (env_at p a) y) n.text es (args (env_at p a) es)) callee_is in
       let static_is : statics.static (scope_at p a) (text.CallOf q (text.MemberOf m y n) es) ≡ Some ty.Bool =
-      ap (λ k. call_type p.classes (called_with (count es) (member_callee (scope_at p a) n.text k))) r ∙ ap (λ k. call_type p.classes (called_with (count es) k)) callee_is ∙ (rw w.1 refl) in
+      ap (λ k. call_type p.classes (called_with (count es) (member_callee (scope_at p a) n.text k))) r ∙ ap (λ k. call_type p.classes (called_with (count es) k)) callee_is ∙ rw w.1 (owners_type n.text) in
       record {
         typed = λ u e. ap type_of tree_is ∙ w.0.1 ∙ sym static_is ∙ e;
         valued = ap (λ o. is_some o || has_no_value (refusing static static (scope_at p a)) (text.CallOf q (text.MemberOf m y n) es)) static_is;

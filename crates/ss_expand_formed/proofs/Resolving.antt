@@ -6,6 +6,7 @@ use Rattle.std.specs.List.{list_all}
 use Rattle.std.proofs.lemmas.Bool.{and_parts, and_from, le-leb, lt-ltb, false≢true}
 use Rattle.std.proofs.lemmas.List.{length-map, length-append}
 use Rattle.std.proofs.lemmas.List.Folds.{list_all-append}
+use Rattle.std.specs.Option.{option_or}
 use Rattle.ss_core.specs.declared.names.Place.{Place}
 use Rattle.ss_core.specs.declared.names.Ty.{Ty}
 use Rattle.ss_ast.specs.Expressions.{NameTree, TypeTree, Arguments}
@@ -13,7 +14,7 @@ use Rattle.ss_ast.specs.Expressions as text
 use Rattle.ss_ast.specs.Statements as written
 use Rattle.ss_ast.specs.Programs.{ParamTree}
 use Rattle.ss_tables.specs.Members.{FieldTree}
-use Rattle.ss_tables.specs.Classes.{Declared, or_else, field_of, is_array_number, declared_place}
+use Rattle.ss_tables.specs.Classes.{Declared, field_of, is_array_number, declared_place}
 use Rattle.ss_tables.specs.Words.{is_state_read}
 use Rattle.ss_tables.specs.Statics.{Receiver, TheConsole, TheOwner, TheBase, AClass, AValue, receiver, static}
 use Rattle.ss_typed.specs.Tree.{ExprTree, LocalOf, LengthOf, StateOf}
@@ -74,7 +75,7 @@ module _ (low : ℕ) where
       let both = and_parts (has_number low n l.1) (have_numbers low n ls) h in
       on_either (λ (k : Option Known). may_have n k ≡ true) (bytes_eq x l.0) (Some l.1) (named_in ls x) both.0 (in_scope n ls x both.1)
 
-  in_either : (n : ℕ) (a b : Option Known) → may_have n a ≡ true → may_have n b ≡ true → may_have n (or_else a b) ≡ true
+  in_either : (n : ℕ) (a b : Option Known) → may_have n a ≡ true → may_have n b ≡ true → may_have n (option_or a b) ≡ true
   in_either n (Some k) b h g = h
   in_either n None b h g = g
 

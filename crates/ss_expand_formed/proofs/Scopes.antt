@@ -4,6 +4,7 @@ use Rattle.std.specs.Prelude.{◌&&◌, ◌==◌, is_some, nat_le, codes, option
 use Rattle.std.specs.Str.{bytes_eq}
 use Rattle.std.specs.List.{list_all}
 use Rattle.std.proofs.lemmas.Bool.{and_parts, and_from, or_left, or_right, eq-eqb, le-leb}
+use Rattle.std.specs.Option.{option_or}
 use Rattle.ss_core.specs.declared.names.Place.{Place}
 use Rattle.ss_core.specs.declared.names.Ty.{Ty}
 use Rattle.ss_core.specs.Tree.{SameOwner, OwnedAt}
@@ -11,7 +12,7 @@ use Rattle.ss_ast.specs.Expressions.{NameTree, TypeTree, Arguments}
 use Rattle.ss_ast.specs.Expressions as text
 use Rattle.ss_ast.specs.Statements as written
 use Rattle.ss_tables.specs.Members.{FieldTree, MethodTree, is_static}
-use Rattle.ss_tables.specs.Classes.{Declared, or_else, above, field_of, is_array_number, declared_place}
+use Rattle.ss_tables.specs.Classes.{Declared, above, field_of, is_array_number, declared_place}
 use Rattle.ss_tables.specs.Words.{is_state_read}
 use Rattle.ss_tables.specs.Statics.{Receiver, TheConsole, TheOwner, TheBase, AClass, AValue, Callee, AMethod, APrint, AWord, ABase, NoCallee, receiver, static, name_callee, member_callee, result_type}
 use Rattle.ss_typed.specs.Tree.{ExprTree, LengthOf, StateOf, OwnersOf, StaticOf, CallOf}
@@ -101,12 +102,12 @@ has m (Some (Variable x t)) = m.locals x
 has m (Some (BoundName k)) = true
 
 -- one more name of an innermost scope
-pub known_append : (ls : Known_names) (x : List ℕ) (k : Known) (n : List ℕ) → named_in (ls ++ (x, k) ∷ []) n ≡ or_else (named_in ls n) (if bytes_eq n x then Some k else None)
+pub known_append : (ls : Known_names) (x : List ℕ) (k : Known) (n : List ℕ) → named_in (ls ++ (x, k) ∷ []) n ≡ option_or (named_in ls n) (if bytes_eq n x then Some k else None)
 known_append [] x k n = refl
 known_append (l ∷ ls) x k n = by (bytes_eq n l.0) (known_append ls x k n)
   where
-    by : (b : Bool) → named_in (ls ++ (x, k) ∷ []) n ≡ or_else (named_in ls n) (if bytes_eq n x then Some k else None) →
-        (if b then Some l.1 else named_in (ls ++ (x, k) ∷ []) n) ≡ or_else (if b then Some l.1 else named_in ls n) (if bytes_eq n x then Some k else None)
+    by : (b : Bool) → named_in (ls ++ (x, k) ∷ []) n ≡ option_or (named_in ls n) (if bytes_eq n x then Some k else None) →
+        (if b then Some l.1 else named_in (ls ++ (x, k) ∷ []) n) ≡ option_or (if b then Some l.1 else named_in ls n) (if bytes_eq n x then Some k else None)
     by true h = refl
     by false h = h
 
@@ -116,19 +117,19 @@ has_more m x (Some (Variable y t)) h = or_left _ _ h
 has_more m x (Some (BoundName k)) h = refl
 
 module _ (m : May) (next : ℕ) (t : Ty) (outer : Option Known) where
-  new_has : (b : Bool) → has m outer ≡ true → has (with_local m next) (or_else (if b then Some (Variable next t) else None) outer) ≡ true
+  new_has : (b : Bool) → has m outer ≡ true → has (with_local m next) (option_or (if b then Some (Variable next t) else None) outer) ≡ true
   new_has true h = or_right (m.locals next) (next == next) (eq-eqb next next refl)
   new_has false h = has_more m next outer h
 
-  either_has : (k new : Option Known) → has m (or_else k outer) ≡ true → (has m outer ≡ true → has (with_local m next) (or_else new outer) ≡ true) → has (with_local m next) (or_else (or_else k new) outer) ≡ true
+  either_has : (k new : Option Known) → has m (option_or k outer) ≡ true → (has m outer ≡ true → has (with_local m next) (option_or new outer) ≡ true) → has (with_local m next) (option_or (option_or k new) outer) ≡ true
   either_has (Some k) new h g = has_more m next (Some k) h
   either_has None new h g = g h
 
-  one_has : (ls : Known_names) (x n : List ℕ) → has m (or_else (named_in ls n) outer) ≡ true → has (with_local m next) (or_else (named_in (with_named ls x (Variable next t)) n) outer) ≡ true
+  one_has : (ls : Known_names) (x n : List ℕ) → has m (option_or (named_in ls n) outer) ≡ true → has (with_local m next) (option_or (named_in (with_named ls x (Variable next t)) n) outer) ≡ true
   one_has ls x n h =
-      on_either (λ (z : Known_names). has (with_local m next) (or_else (named_in z n) outer) ≡ true) (is_some (named_in ls x)) ls (ls ++ (x, Variable next t) ∷ [])
-      (has_more m next (or_else (named_in ls n) outer) h)
-      (subst (λ k. has (with_local m next) (or_else k outer) ≡ true) (sym (known_append ls x (Variable next t) n))
+      on_either (λ (z : Known_names). has (with_local m next) (option_or (named_in z n) outer) ≡ true) (is_some (named_in ls x)) ls (ls ++ (x, Variable next t) ∷ [])
+      (has_more m next (option_or (named_in ls n) outer) h)
+      (subst (λ k. has (with_local m next) (option_or k outer) ≡ true) (sym (known_append ls x (Variable next t) n))
       (either_has (named_in ls n) (if bytes_eq n x then Some (Variable next t) else None) h (new_has (bytes_eq n x))))
 
 module _ (low : ℕ) where
@@ -148,7 +149,7 @@ module _ (low : ℕ) where
   within_scoped : (m : May) (e : Env) (x : NameTree) → Scoped m e → Scoped m (within e x)
   within_scoped m e x h = record { this = h.this; result = h.result; names = λ n. by (bytes_eq n x.text) n; above = h.above }
     where
-      by : (b : Bool) (n : List ℕ) → has m (or_else (if b then Some (BoundName e.bound) else None) (known e n)) ≡ true
+      by : (b : Bool) (n : List ℕ) → has m (option_or (if b then Some (BoundName e.bound) else None) (known e n)) ≡ true
       by true n = refl
       by false n = h.names n
 

@@ -45,6 +45,7 @@ use Rattle.ss_expand_rules.specs.Program.{above_of}
 use Rattle.ss_typed.specs.Lookups.{constructor_of, param_types_in}
 use Rattle.ss_expand_formed.specs.Laws.{core_of}
 use Rattle.ss_expand_formed.proofs.Facts.{none_left, or_false}
+use Rattle.ss_expand_formed.proofs.Words.{level_word}
 use Rattle.ss_expand_formed.proofs.Places.{class_at}
 use Rattle.ss_expand_formed.proofs.Cycles.{above_within}
 use Rattle.ss_expand_formed.proofs.Fit.{Context, Fit, Fits}
@@ -447,7 +448,8 @@ module _ (p : ProgramTree) (faultless : program_faults p ≡ []) (x : Context) (
 
         asked : is_state_call n.text ≡ true → statics.may_have_levels (statics.static S y) ≡ true → ⊥
         asked d may =
-            let callee_is : member_callee S n.text (AValue (statics.static S y)) ≡ AWord 1 = rw (d, may) refl in
+            let word = level_word (statics.static S y) may in
+            let callee_is : member_callee S n.text (AValue (statics.static S y)) ≡ AWord word.0 = rw d word.1 in
             let z = subst (λ c. misplaced NoWord (called_behind E q (AValue (statics.static S y)) (expr E y) n.text es (args E es) c) ≡ []) callee_is words in
             no_question q n.text (first_class E es) (expr E y) z
 

@@ -7,7 +7,7 @@ use Rattle.std.proofs.lemmas.Option.{same_Some, slice_get-map}
 use Rattle.ss_core.specs.declared.names.Ty.{Ty}
 use Rattle.ss_core.specs.declared.names.Ty.TheVariants as ty
 use Rattle.ss_core.specs.Tree as core
-use Rattle.ss_core.specs.Chain.{DeclaredField, in_class, all_fields}
+use Rattle.ss_core.specs.Chain.{DeclaredField, in_class, all_fields, fields_of}
 use Rattle.ss_ast.specs.Programs.{ClassTree, ProgramTree}
 use Rattle.ss_tables.specs.Members.{FieldTree, fields_in}
 use Rattle.ss_typed.specs.Tree.{ExprTree, StmtTrees, NoMore, Before, TypedTree}
@@ -87,7 +87,7 @@ module _ (p : ProgramTree) (k : ℕ) (c : ClassTree) (at : slice_get p.classes k
   own_is =
       let place : class_place t ≡ k = omega arith in
       let z : 0 + k ≡ k = omega arith in
-      ap (λ i. paths.fields_in (slice_get q.classes i)) place ∙ ap paths.fields_in (each_at (class p.classes) 0 p.classes k c at ∙ ap (λ i. Some (class p.classes i c)) z)
+      ap (λ i. fields_of (slice_get q.classes i)) place ∙ ap fields_of (each_at (class p.classes) 0 p.classes k c at ∙ ap (λ i. Some (class p.classes i c)) z)
 
   -- a field that the class declares is one of its own
   own_field : (f : ℕ) (d : DeclaredField) → field_at q f ≡ Some d → (d.class == t) ≡ true → (i : ℕ) × (f ≡ n.first + i) × (slice_get (own_fields q t) i ≡ Some d.field)

@@ -10,6 +10,7 @@ use Rattle.ss_core.specs.declared.names.Ty.TheVariants as ty
 use Rattle.ss_core.specs.Tree as core
 use Rattle.ss_core.specs.Tree.{ExposedTree, BoolExpr, IfStmt, LoopStmt, UnpackStmt, PackStmt, ReturnStmt, NoCode}
 use Rattle.ss_core.specs.View.{code_of}
+use Rattle.ss_core.specs.Types.{nullable}
 use Rattle.ss_typed.specs.Tree.{ExprTree, SimpleTree, InitTree, DeclareFirst, SimpleFirst, BlockTree, BlockOf, StmtTree, InBlock, DeclareOf, SimpleOf, IfOf, IfElseOf, WhileOf, ForOf, ReturnOf, AssertOf, AssumeOf, ExposeOf, EmptyOf, StmtTrees, NoMore, Before}
 use Rattle.ss_typed.specs.Types.{type_of}
 use Rattle.ss_owners_rules.specs.Words.{Allowed, NoWord, OfEntry}
@@ -21,7 +22,6 @@ use Rattle.ss_expand_rules.specs.Ends.{can_end, block_can_end}
 use Rattle.ss_expand_rules.specs.Statements.{exposed, loop_while, begin, advance, pack_of, pack_this, packs, leave_with, result_type, kept_result, leave_value, leave, exposed_class, close, opened, expose_lifted, stmt, block, stmts}
 use Rattle.ss_store_rules.specs.Changes.{below}
 use Rattle.ss_store_rules.specs.Types.{has_fitting, fits_type, is_bool, has_class, in_code, in_assert, is_condition}
-use Rattle.ss_store_rules.specs.Types as types
 use Rattle.ss_store_rules.specs.Typed.{has_type_in, is_returned, is_exposable}
 use Rattle.ss_expand_formed.proofs.Choosing.{all_reverse}
 use Rattle.ss_expand_formed.proofs.Counted.{closed_made}
@@ -144,7 +144,7 @@ module _ (z : Frame) (agrees : Agrees z) (source : Context) (wider : Wider sourc
       let h = right_passes z agrees K os e made (coding z agrees source wider os e f.0) (made_before z agrees l.made (l.made ++ u ∷ []) (begins_append l.made (u ∷ [])) m) in
       let k = kept_in z agrees K (place_of e) u l (type_of e) h (ap (has_fitting C (type_of e)) is ∙ f.1) m in
       let v = kept_result (at os) e l in
-      let fit : has_type_in C z.body v.value t ≡ true = ap (λ o. has_fitting C o t) (code_is z agrees v.value (Some (types.plain u)) k.1) ∙ ap (λ x. fits_type C (types.plain x) t) is ∙ fitting_itself C (type_of e) t f.1 in
+      let fit : has_type_in C z.body v.value t ≡ true = ap (λ o. has_fitting C o t) (code_is z agrees v.value (Some (nullable u)) k.1) ∙ ap (λ x. fits_type C (nullable x) t) is ∙ fitting_itself C (type_of e) t f.1 in
       leave_with_passes os p v t fine k.0 (agrees.result ∙ r) fit
 
   leave_passes : (os : List Opened) (p : Place) (e : Option ExprTree) (r : Option Ty) (made : List Ty) → are_exposable os ≡ true → z.context.result ≡ r → FitReturn z.typed C source K z.first r e → HasMade z (leave (at os) p e made).made → Passing z (leave (at os) p e made).code

@@ -17,6 +17,7 @@ use Rattle.ss_ast.specs.declared.stmt.StepOperator.TheVariants as step
 use Rattle.ss_core.specs.Tree as core
 use Rattle.ss_core.specs.Tree.{AssignStmt, WriteStmt, WriteElementStmt, CallStmt, BaseConstructor, ReadyStmt, PrintStmt}
 use Rattle.ss_core.specs.Chain.{is_type, DeclaredField}
+use Rattle.ss_core.specs.Types.{nullable}
 use Rattle.ss_typed.specs.Tree.{ExprTree, ThisOf, IntOf, LocalOf, FieldOf, ElementOf, BinaryOf, Arguments, DeclaratorTree, SimpleTree, AssignOf, StepOf, AloneOf, PrintOf, PrintTextOf, BaseCallOf}
 use Rattle.ss_typed.specs.Types.{class_type, type_of}
 use Rattle.ss_typed.specs.Types as typed
@@ -30,7 +31,6 @@ use Rattle.ss_expand_rules.specs.Lifting.{Opened, ElaborationContext, Source, Pu
 use Rattle.ss_expand_rules.specs.Simple.{into_local, write_of, write, assign_settled, Settled, settle_lifted, settle_part, settle, assign_behind, assign, update, assignment, step_operator, default_of, declared_as, declare, drop_result, alone, print, has_delayed_constructor, ready_behind, base_with, base_of, simple}
 use Rattle.ss_store_rules.specs.Changes.{below, is_array}
 use Rattle.ss_store_rules.specs.Types.{has_fitting, fits_type, is_int, is_bool, has_class, operation_type, element_of, code_type}
-use Rattle.ss_store_rules.specs.Types as types
 use Rattle.ss_store_rules.specs.Typed.{same_mark, callee_of, fits_declared, has_type_in, is_write_of, is_element_write, is_printed}
 use Rattle.ss_expand_formed.proofs.Facts.{none_left, or_false}
 use Rattle.ss_expand_formed.proofs.Choosing.{on_either}
@@ -46,14 +46,14 @@ use Rattle.ss_expand_formed.proofs.Lifting.{bare_declared, Coding, Gives, Lifts,
 
 -- ---- types
 
-plain_twice : (t : Ty) → types.plain (types.plain t) ≡ types.plain t
+plain_twice : (t : Ty) → nullable (nullable t) ≡ nullable t
 plain_twice ty.Int = refl
 plain_twice ty.Bool = refl
 plain_twice ty.Null = refl
 plain_twice (ty.Ref t n) = refl
 
 module _ (C : List core.ClassTree) where
-  declared_same : (a : Option Ty) (t u : Ty) → types.plain u ≡ types.plain t → has_fitting C a t ≡ true → has_fitting C a u ≡ true
+  declared_same : (a : Option Ty) (t u : Ty) → nullable u ≡ nullable t → has_fitting C a t ≡ true → has_fitting C a u ≡ true
   declared_same None t u e h = h
   declared_same (Some a) t u e h = fits_same C a t u e h
 
@@ -64,7 +64,7 @@ module _ (C : List core.ClassTree) where
 
   fits_plain : (a o : Option Ty) → fits_declared C a o ≡ true → fits_declared C a (bare o) ≡ true
   fits_plain a None h = h
-  fits_plain a (Some t) h = declared_same a t (types.plain t) (plain_twice t) h
+  fits_plain a (Some t) h = declared_same a t (nullable t) (plain_twice t) h
 
   some_declared : (a o : Option Ty) → fits_declared C a o ≡ true → is_some a ≡ true
   some_declared a None h = absurd (false≢true h)

@@ -11,6 +11,7 @@ use Rattle.ss_core.specs.Tree as core
 use Rattle.ss_core.specs.Tree.{LocalExpr, Base}
 use Rattle.ss_core.specs.Chain.{is_type, is_declared}
 use Rattle.ss_core.proofs.Chains.{below_self, sub_self}
+use Rattle.ss_core.specs.Types.{nullable}
 use Rattle.ss_typed.specs.Tree.{ParamTree, BodyTree, TypedTree}
 use Rattle.ss_typed.specs.Types.{class_type}
 use Rattle.ss_expand_rules.specs.Program.{above_of, number_in_table}
@@ -29,7 +30,7 @@ use Rattle.ss_expand_formed.proofs.Values.{Takes}
 -- ---- types of the table fit themselves
 
 module _ (cs : List core.ClassTree) where
-  plain_fits : (t : Ty) → is_type cs t ≡ true → fits_type cs (types.plain t) t ≡ true
+  plain_fits : (t : Ty) → is_type cs t ≡ true → fits_type cs (nullable t) t ≡ true
   plain_fits ty.Int h = refl
   plain_fits ty.Bool h = refl
   plain_fits ty.Null h = absurd (false≢true h)
@@ -113,8 +114,8 @@ module _ (c : core.CoreTree) (p : TypedTree) (q : Place) (t m : ℕ) (b : BodyTr
 
   -- ---- its statements
 
-  reads : (i : ℕ) (u : Ty) → Has i u → code_type cs y (LocalExpr q i) ≡ Some (types.plain u)
-  reads i u h = ap (λ k. if k then types.type_of cs (local_types y) (LocalExpr q i) else None) (ap not h.1) ∙ ap (option_map types.plain) h.0
+  reads : (i : ℕ) (u : Ty) → Has i u → code_type cs y (LocalExpr q i) ≡ Some (nullable u)
+  reads i u h = ap (λ k. if k then types.type_of cs (local_types y) (LocalExpr q i) else None) (ap not h.1) ∙ ap (option_map nullable) h.0
 
   hands : (at : ℕ) (qs : List ParamTree) → ((i : ℕ) (u : Ty) → slice_get (param_types qs) i ≡ Some u → Has (at + i) u) → are_declared cs (param_types qs) ≡ true → have_types_in cs y (own_params q at qs) (param_types qs) ≡ true
   hands at [] h known = refl

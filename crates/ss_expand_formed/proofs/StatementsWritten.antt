@@ -12,6 +12,7 @@ use Rattle.ss_core.specs.Tree.{LocalExpr, AssignStmt}
 use Rattle.ss_core.specs.View.{code_of}
 use Rattle.ss_core.specs.Chain.{is_type, is_declared, all_fields, IsChain}
 use Rattle.ss_core.proofs.Chains.{below_self, sub_self}
+use Rattle.ss_core.specs.Types.{nullable}
 use Rattle.ss_typed.specs.Tree.{BlockTree, ParamTree, BodyTree, TypedTree}
 use Rattle.ss_typed.specs.Types.{class_type}
 use Rattle.ss_expand_rules.specs.Numbers.{number}
@@ -19,7 +20,6 @@ use Rattle.ss_expand_rules.specs.Contracts.{first_param}
 use Rattle.ss_expand_rules.specs.Bodies.{block_assigns, assigned_from, assigned_params, meant_from, first_copy, meant, results, numbers, copies, temporaries_from, temporary_types, temporary_count, copying_from, copying, statements, code_with, code, written_body}
 use Rattle.ss_store_rules.specs.Locals.{types_of, this_types, argument_types, local_types, result_number, is_result, each}
 use Rattle.ss_store_rules.specs.Types.{fits_type, code_type}
-use Rattle.ss_store_rules.specs.Types as types
 use Rattle.ss_store_rules.specs.Typed.{fits_declared, is_typed, is_exposable, has_exposable}
 use Rattle.ss_expand_formed.proofs.Facts.{and_false}
 use Rattle.ss_expand_formed.proofs.Choices.{each_more}
@@ -263,7 +263,7 @@ module _ (c : core.CoreTree) (p : TypedTree) (b : BodyTree) (bs : List BodyTree)
       calls = calls;
     }
 
-    type_fits : (t : Ty) → is_type c.classes t ≡ true → fits_type c.classes (types.plain t) t ≡ true
+    type_fits : (t : Ty) → is_type c.classes t ≡ true → fits_type c.classes (nullable t) t ≡ true
     type_fits ty.Int h = refl
     type_fits ty.Bool h = refl
     type_fits ty.Null h = absurd (false≢true h)
@@ -279,8 +279,8 @@ module _ (c : core.CoreTree) (p : TypedTree) (b : BodyTree) (bs : List BodyTree)
         let there : (i : ℕ) (t : Ty) → slice_get (q.ty ∷ param_types (assigned_from b.block (x + 1) qs)) i ≡ Some t → slice_get front (copy + i) ≡ Some t = rw yes at copied in
         let here : slice_get front x ≡ Some q.ty = subst (λ k. slice_get front k ≡ Some q.ty) (let e : x + 0 ≡ x = omega arith in e) (param 0 q.ty refl) in
         let new : slice_get front copy ≡ Some q.ty = subst (λ k. slice_get front k ≡ Some q.ty) (let e : copy + 0 ≡ copy = omega arith in e) (there 0 q.ty refl) in
-        let read = code_is frame agrees (LocalExpr q.place x) (Some (types.plain q.ty)) (local_is frame agrees q.place x q.ty (in_locals x q.ty here) (front_apart x q.ty here)) in
-        let fit : is_typed c y (AssignStmt q.place copy (LocalExpr q.place x)) ≡ true = ap (λ a. fits_declared c.classes a (slice_get (local_types y) copy)) read ∙ ap (fits_declared c.classes (Some (types.plain q.ty))) (in_locals copy q.ty new) ∙ type_fits q.ty both.0 in
+        let read = code_is frame agrees (LocalExpr q.place x) (Some (nullable q.ty)) (local_is frame agrees q.place x q.ty (in_locals x q.ty here) (front_apart x q.ty here)) in
+        let fit : is_typed c y (AssignStmt q.place copy (LocalExpr q.place x)) ≡ true = ap (λ a. fits_declared c.classes a (slice_get (local_types y) copy)) read ∙ ap (fits_declared c.classes (Some (nullable q.ty))) (in_locals copy q.ty new) ∙ type_fits q.ty both.0 in
         let rest = copying_passes (copy + 1) (x + 1) qs (shifted x (param_types qs) q.ty param) (shifted copy (param_types (assigned_from b.block (x + 1) qs)) q.ty there) both.1 in
         rw yes (and_from _ _ (and_from _ _ fit refl) rest))
         (λ other.

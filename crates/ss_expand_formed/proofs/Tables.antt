@@ -23,7 +23,7 @@ use Rattle.ss_expand_rules.specs.Program as program
 use Rattle.ss_expand_rules.specs.Program.{method_at, table_of, Method, is_declared_by, is_wrapped, is_own, place_in, written, number_of, number_of_written, entry_number, entries_from}
 use Rattle.ss_typed.specs.Lookups.{body_at, members_of}
 use Rattle.ss_expand_rules.specs.Numbers.{Numbers, plain, all_plain}
-use Rattle.ss_expand_rules.specs.Contracts.{first_param, is_reference, where_asked, of_argument, of_param, of_params, default_entry, default_exit, conditions, entry_of_first, all_exits, declared_at as declares, declarations}
+use Rattle.ss_expand_rules.specs.Contracts.{first_param, where_asked, of_argument, of_param, of_params, default_entry, default_exit, conditions, entry_of_first, all_exits, declared_at as declares, declarations}
 use Rattle.ss_expand_rules.specs.Bodies.{written_body, wrapper_body}
 use Rattle.ss_expand_rules.specs.Elaborated.{wrapper_at, method_body as elaborated_method}
 use Rattle.ss_store_rules.specs.Typed as store
@@ -31,6 +31,7 @@ use Rattle.ss_store_rules.specs.Tables.{StandsFor, is_level, is_at_level, is_sha
 use Rattle.ss_expand_formed.specs.Laws.{core_of}
 use Rattle.ss_expand_formed.specs.Tables.{HaveInherited}
 use Rattle.ss_core.proofs.Declared.{declared_at}
+use Rattle.ss_core.specs.Types.{is_class_type}
 use Rattle.ss_expand_formed.proofs.Choosing.{all_more}
 use Rattle.ss_expand_formed.proofs.Facts.{not_true}
 use Rattle.ss_expand_formed.proofs.Searching.{place_found, any_at, at_front}
@@ -83,10 +84,10 @@ argument_above b x =
 params_above : (b : BodyTree) (x : ℕ) (qs : List ParamTree) → list_any is_level (of_params b x qs) ≡ false
 params_above b x [] = refl
 params_above b x (q ∷ qs) =
-    let one = asked_above (is_reference q.ty && not b.flags.no_default_contract) (of_argument b x) (argument_above b x) in
+    let one = asked_above (is_class_type q.ty && not b.flags.no_default_contract) (of_argument b x) (argument_above b x) in
     let two = asked_above q.captured (core.Captured x (not b.flags.is_static)) refl in
     list_any-append is_level (of_param b x q) (of_params b (x + 1) qs)
-    ∙ or_none _ _ (list_any-append is_level (where_asked (is_reference q.ty && not b.flags.no_default_contract) (of_argument b x)) (where_asked q.captured (core.Captured x (not b.flags.is_static))) ∙ or_none _ _ one two) (params_above b (x + 1) qs)
+    ∙ or_none _ _ (list_any-append is_level (where_asked (is_class_type q.ty && not b.flags.no_default_contract) (of_argument b x)) (where_asked q.captured (core.Captured x (not b.flags.is_static))) ∙ or_none _ _ one two) (params_above b (x + 1) qs)
 
 -- a method without a wrapper, that isn't static, is pure or has no default contract
 this_above : (undefaulted static pure : Bool) (t : ℕ) → (not static && not pure && not undefaulted) ≡ false → list_any is_level (this_entry undefaulted static pure t) ≡ false

@@ -9,10 +9,11 @@ use Rattle.ss_core.specs.declared.expr.Operator.{Operator}
 use Rattle.ss_core.specs.declared.expr.Operator.TheVariants as op
 use Rattle.ss_core.specs.Tree as core
 use Rattle.ss_core.specs.Chain.{is_class, is_type}
+use Rattle.ss_core.specs.Types.{nullable}
 use Rattle.ss_typed.specs.Tree.{ExprTree, IntOf, BoolOf, NullOf, ThisOf, LocalOf, ResultOf, BoundOf, IffOf, ImpliesOf, BinaryOf, IsOf, AsOf, NegateOf, NotOf, CastOf, FieldOf, ElementOf, LengthOf, OldOf, QuantifiedOf, StateOf, OwnersOf, NewOf, NewArrayOf, CallOf, StaticOf, BaseOf, Arguments, NoMore, Argument, DeclaratorTree, SimpleTree, AssignOf, StepOf, AloneOf, PrintOf, PrintTextOf, BaseCallOf, InitTree, DeclareFirst, SimpleFirst, BlockTree, BlockOf, StmtTree, InBlock, DeclareOf, SimpleOf, IfOf, IfElseOf, WhileOf, ForOf, ReturnOf, ExposeOf, StmtTrees, Before}
 use Rattle.ss_typed.specs.Tree as typed
 use Rattle.ss_typed.specs.Types.{class_type, element_type, element_of, operation_type, type_of}
-use Rattle.ss_expand_rules.specs.Lifting.{nullable, temporary_type}
+use Rattle.ss_expand_rules.specs.Lifting.{temporary_type}
 use Rattle.ss_expand_formed.proofs.Choosing.{on_either}
 
 abbrev pub may_be : List core.ClassTree → Ty → Bool

@@ -12,6 +12,7 @@ use Rattle.ss_core.specs.Tree.{LocalExpr, Static, Base, BaseConstructor}
 use Rattle.ss_core.specs.View.{code_of}
 use Rattle.ss_core.specs.Chain.{is_declared, all_fields, sub, IsChain}
 use Rattle.ss_core.proofs.Chains.{sub_self}
+use Rattle.ss_core.specs.Types.{nullable}
 use Rattle.ss_typed.specs.Tree.{ExprTree, IntOf, BoolOf, NullOf, ThisOf, LocalOf, ResultOf, BoundOf, IffOf, ImpliesOf, BinaryOf, IsOf, AsOf, NegateOf, NotOf, CastOf, FieldOf, ElementOf, LengthOf, OldOf, QuantifiedOf, StateOf, OwnersOf, NewOf, NewArrayOf, CallOf, StaticOf, BaseOf, BodyTree, TypedTree}
 use Rattle.ss_typed.specs.Types.{class_type, type_of, element_type}
 use Rattle.ss_typed.specs.Types as typed
@@ -20,7 +21,7 @@ use Rattle.ss_expand_rules.specs.Program.{above_of, method_at, number_of, number
 use Rattle.ss_typed.specs.Lookups.{body_at, constructor_of, param_types_in}
 use Rattle.ss_expand_rules.specs.Numbers.{Numbers, number, plain}
 use Rattle.ss_expand_rules.specs.Calls.{has_call}
-use Rattle.ss_expand_rules.specs.Lifting.{Opened, ElaborationContext, nullable, temporary_type}
+use Rattle.ss_expand_rules.specs.Lifting.{Opened, ElaborationContext, temporary_type}
 use Rattle.ss_store_rules.specs.Changes.{below, is_array}
 use Rattle.ss_store_rules.specs.Changes as changes
 use Rattle.ss_store_rules.specs.Locals.{types_of, local_types, is_result, everywhere, each}
@@ -122,7 +123,7 @@ pub some_fitting : (cs : List core.ClassTree) (t : Option Ty) (u : Ty) → has_f
 some_fitting cs None u h = h
 some_fitting cs (Some t) u h = refl
 
-pub fits_itself : (cs : List core.ClassTree) (a t : Ty) → fits_type cs a t ≡ true → fits_type cs (types.plain t) t ≡ true
+pub fits_itself : (cs : List core.ClassTree) (a t : Ty) → fits_type cs a t ≡ true → fits_type cs (nullable t) t ≡ true
 fits_itself cs a ty.Int h = refl
 fits_itself cs a ty.Bool h = refl
 fits_itself cs ty.Int ty.Null h = absurd (false≢true h)
@@ -131,18 +132,18 @@ fits_itself cs ty.Null ty.Null h = absurd (false≢true h)
 fits_itself cs (ty.Ref c n) ty.Null h = absurd (false≢true h)
 fits_itself cs a (ty.Ref t n) h = sub_self cs t.0
 
-pub fitting_itself : (cs : List core.ClassTree) (a : Option Ty) (t : Ty) → has_fitting cs a t ≡ true → fits_type cs (types.plain t) t ≡ true
+pub fitting_itself : (cs : List core.ClassTree) (a : Option Ty) (t : Ty) → has_fitting cs a t ≡ true → fits_type cs (nullable t) t ≡ true
 fitting_itself cs None t h = absurd (false≢true h)
 fitting_itself cs (Some a) t h = fits_itself cs a t h
 
 -- what fits a type fits one that is the same without its `!`
-pub fits_same : (cs : List core.ClassTree) (a t u : Ty) → types.plain u ≡ types.plain t → fits_type cs a t ≡ true → fits_type cs a u ≡ true
+pub fits_same : (cs : List core.ClassTree) (a t u : Ty) → nullable u ≡ nullable t → fits_type cs a t ≡ true → fits_type cs a u ≡ true
 fits_same cs a ty.Int ty.Int e h = h
 fits_same cs a ty.Bool ty.Bool e h = h
 fits_same cs a ty.Null ty.Null e h = h
 fits_same cs a (ty.Ref t n) (ty.Ref u m) e h = by a (class_same e) h
   where
-    class_same : types.plain (ty.Ref u m) ≡ types.plain (ty.Ref t n) → u ≡ t
+    class_same : nullable (ty.Ref u m) ≡ nullable (ty.Ref t n) → u ≡ t
     class_same e = cc
 
     by : (a : Ty) → u ≡ t → fits_type cs a (ty.Ref t n) ≡ true → fits_type cs a (ty.Ref u m) ≡ true
@@ -174,24 +175,24 @@ temporary_takes cs ty.Null (Some ty.Null) h g = g refl
 temporary_takes cs (ty.Ref t n) (Some ty.Null) h g = refl
 temporary_takes cs w (Some (ty.Ref t n)) h g = sub_self cs t.0
 
-nullable_plain : (w : Ty) → types.plain (nullable w) ≡ types.plain w
+nullable_plain : (w : Ty) → nullable (nullable w) ≡ nullable w
 nullable_plain ty.Int = refl
 nullable_plain ty.Bool = refl
 nullable_plain ty.Null = refl
 nullable_plain (ty.Ref t n) = refl
 
 -- and is that of the value, or what is wanted of null
-pub temporary_is : (w : Ty) (t : Option Ty) → is_some t ≡ true → (Some (types.plain (temporary_type w t)) ≡ bare t) ⊎ ((t ≡ Some ty.Null) × (types.plain (temporary_type w t) ≡ types.plain w))
+pub temporary_is : (w : Ty) (t : Option Ty) → is_some t ≡ true → (Some (nullable (temporary_type w t)) ≡ bare t) ⊎ ((t ≡ Some ty.Null) × (nullable (temporary_type w t) ≡ nullable w))
 temporary_is w None h = absurd (false≢true h)
 temporary_is w (Some ty.Int) h = inl refl
 temporary_is w (Some ty.Bool) h = inl refl
 temporary_is w (Some ty.Null) h = inr (refl, nullable_plain w)
 temporary_is w (Some (ty.Ref t n)) h = inl refl
 
-element_plain : (c : ℕ) → types.plain (changes.element_type c) ≡ element_type c
+element_plain : (c : ℕ) → nullable (changes.element_type c) ≡ element_type c
 element_plain c = of_one (c == 1) (c == 2) (c == 3)
   where
-    of_one : (a b d : Bool) → types.plain (if a then ty.Int else if b then ty.Bool else if d then ty.Ref (record { 0 = 0 }) false else ty.Ref (record { 0 = c - 1 }) false) ≡ (if a then ty.Int else if b then ty.Bool else if d then ty.Ref (record { 0 = 0 }) false else ty.Ref (record { 0 = c - 1 }) false)
+    of_one : (a b d : Bool) → nullable (if a then ty.Int else if b then ty.Bool else if d then ty.Ref (record { 0 = 0 }) false else ty.Ref (record { 0 = c - 1 }) false) ≡ (if a then ty.Int else if b then ty.Bool else if d then ty.Ref (record { 0 = 0 }) false else ty.Ref (record { 0 = c - 1 }) false)
     of_one true b d = refl
     of_one false true d = refl
     of_one false false true = refl
@@ -248,5 +249,5 @@ module _ (z : Frame) (agrees : Agrees z) where
   pub made_before : (ms us : List Ty) → Begins ms us → HasMade z us → HasMade z ms
   made_before ms us h g i t e = g i t (h i t e)
 
-  pub local_is : (p : Place) (n : ℕ) (t : Ty) → slice_get tys n ≡ Some t → is_result z.body n ≡ false → Is (LocalExpr p n) (Some (types.plain t))
+  pub local_is : (p : Place) (n : ℕ) (t : Ty) → slice_get tys n ≡ Some t → is_result z.body n ≡ false → Is (LocalExpr p n) (Some (nullable t))
   local_is p n t h g = (ap not g, ap bare h)

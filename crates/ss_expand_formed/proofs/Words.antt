@@ -1,5 +1,5 @@
 -- Behind `Console` and `Owner` stand words that are known there, where names have no fault.
-use Rattle.std.proofs.Common.{◌≡◌, ℕ, zero, suc, List, [], ◌++◌, Bool, true, false, Option, Some, None, refl, ◌∙◌}
+use Rattle.std.proofs.Common.{◌≡◌, ℕ, zero, suc, List, [], ◌++◌, Bool, true, false, Option, Some, None, refl, ◌∙◌, ap}
 use Rattle.std.specs.Prelude.{◌&&◌, is_some, if◌then◌else◌}
 use Rattle.std.proofs.lemmas.Bool.{and_from}
 use Rattle.ss_core.specs.declared.names.Place.{Place}
@@ -8,7 +8,7 @@ use Rattle.ss_ast.specs.Expressions.{NameTree, ExprTree, IffOf, ImpliesOf, Binar
 use Rattle.ss_tables.specs.Words.{is_console, is_owner, is_print, is_owner_word}
 use Rattle.ss_tables.specs.Classes.{class_named}
 use Rattle.ss_tables.specs.Scopes.{Scope, local_named, within_quantifier}
-use Rattle.ss_tables.specs.Statics.{Receiver, TheConsole, TheOwner, TheBase, AClass, AValue, is_member, class_or_value, receiver, static}
+use Rattle.ss_tables.specs.Statics.{Receiver, TheConsole, TheOwner, TheBase, AClass, AValue, AWord, NoCallee, is_member, may_have_levels, level_callee, class_or_value, receiver, static}
 use Rattle.ss_resolver_names_rules.specs.Faults.{Faults, unless, unknown, class_faults, type_faults, type_name_faults}
 use Rattle.ss_resolver_names_rules.specs.Expressions.{read_faults, before_dot, called_faults, callee_faults, class_argument, class_named_by, argument_faults, behind_argument, expr_faults, arguments_faults}
 use Rattle.ss_expand_formed.proofs.Facts.{none_left}
@@ -36,6 +36,11 @@ named_word n false false false false None t u = refl
 pub same_word : (n : List ℕ) (s : Scope) (refuses : Bool) (r t u : Option Ty) (x : ExprTree) → called_word n (receiver (record s { refuses_members = refuses; outcome = r }) x t) ≡ called_word n (receiver s x u)
 same_word n s refuses r t u (NameOf p q) = named_word n (is_some (local_named s q)) (is_console q) (is_owner q) (is_member s.classes s.class q) (class_named s.classes q) t u
 same_word n s refuses r t u x = refl
+
+-- what may be asked about its level is asked
+pub level_word : (t : Option Ty) → may_have_levels t ≡ true → (k : ℕ) × (level_callee t ≡ AWord k)
+level_word None h = (0, refl)
+level_word (Some t) h = (1, ap (λ (b : Bool). if b then AWord 1 else NoCallee) h)
 
 -- ---- the words that are called
 

@@ -5,6 +5,7 @@ use Rattle.std.specs.List.{list_all}
 use Rattle.std.specs.Str.{bytes_eq}
 use Rattle.std.proofs.lemmas.Bool.{and_parts, and_from, lt-ltb}
 use Rattle.std.proofs.lemmas.List.Folds.{list_all-append}
+use Rattle.std.specs.Option.{option_or}
 use Rattle.ss_core.specs.declared.names.Place.{Place}
 use Rattle.ss_core.specs.declared.names.Ty.{Ty}
 use Rattle.ss_core.specs.declared.names.Ty.TheVariants as ty
@@ -16,7 +17,7 @@ use Rattle.ss_ast.specs.Expressions as text
 use Rattle.ss_ast.specs.Statements as written
 use Rattle.ss_ast.specs.Programs.{ParamTree, ClassTree, ProgramTree}
 use Rattle.ss_tables.specs.Members.{FieldTree, MethodTree, is_static}
-use Rattle.ss_tables.specs.Classes.{Declared, or_else, class_named, field_of, above, is_array_number, declared_place}
+use Rattle.ss_tables.specs.Classes.{Declared, class_named, field_of, above, is_array_number, declared_place}
 use Rattle.ss_tables.specs.Types.{class_of, named_type, array_type, written_type}
 use Rattle.ss_tables.specs.Words.{is_state_read}
 use Rattle.ss_tables.specs.Statics.{Receiver, TheConsole, TheOwner, TheBase, AClass, AValue, Callee, AMethod, APrint, AWord, ABase, NoCallee, receiver, static, result_type, name_callee, member_callee}
@@ -119,7 +120,7 @@ module _ (p : ProgramTree) where
       let both = and_parts (known_fits l.1) (names_fit ls) h in
       on_either (λ (k : Option Known). may_fit k ≡ true) (bytes_eq x l.0) (Some l.1) (named_in ls x) both.0 (in_scope ls x both.1)
 
-  in_either : (a b : Option Known) → may_fit a ≡ true → may_fit b ≡ true → may_fit (or_else a b) ≡ true
+  in_either : (a b : Option Known) → may_fit a ≡ true → may_fit b ≡ true → may_fit (option_or a b) ≡ true
   in_either (Some k) b h g = h
   in_either None b h g = g
 

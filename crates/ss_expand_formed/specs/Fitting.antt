@@ -3,6 +3,7 @@ use Rattle.std.specs.Prelude.{◌≡◌, ℕ, ◌+◌, ◌<◌, ◌≤◌, ◌==
 use Rattle.ss_core.specs.declared.names.Ty.{Ty}
 use Rattle.ss_core.specs.Tree as core
 use Rattle.ss_core.specs.Chain.{above}
+use Rattle.ss_core.specs.Types.{is_class_type}
 use Rattle.ss_typed.specs.Tree.{ExprTree, ThisOf, LocalOf, ResultOf, IffOf, ImpliesOf, BinaryOf, IsOf, AsOf, NegateOf, NotOf, CastOf, FieldOf, ElementOf, LengthOf, OldOf, NewOf, NewArrayOf, CallOf, StaticOf, BaseOf, Arguments, NoMore, Argument, DeclaratorTree, SimpleTree, AssignOf, StepOf, AloneOf, PrintOf, PrintTextOf, BaseCallOf, InitTree, DeclareFirst, SimpleFirst, BlockTree, BlockOf, StmtTree, InBlock, DeclareOf, SimpleOf, IfOf, IfElseOf, WhileOf, ForOf, ReturnOf, ExposeOf, StmtTrees, Before, BodyTree, TypedTree}
 use Rattle.ss_typed.specs.Tree as typed
 use Rattle.ss_ast.specs.declared.stmt.AssignOperator.{AssignOperator}
@@ -18,7 +19,6 @@ use Rattle.ss_nonnull_rules.specs.Facts.{is_null}
 use Rattle.ss_nonnull_rules.specs.Faults.{parameters, body_in_table, class_of, method_of, constructor_parameters}
 use Rattle.ss_expand_rules.specs.Program.{above_of, field_at, Constructor, number_of, number_of_written}
 use Rattle.ss_expand_rules.specs.Numbers.{Numbers, number, plain}
-use Rattle.ss_expand_rules.specs.Contracts.{is_reference}
 use Rattle.ss_expand_rules.specs.Statements.{result_type}
 use Rattle.ss_expand_rules.specs.Lifting.{Opened, ElaborationContext, static_class, base_number}
 use Rattle.ss_store_rules.specs.Changes.{field_type}
@@ -79,7 +79,7 @@ abbrev mutual
   -- its locals, fields and calls have in the elaboration the types that stand in it
   pub fits : Frame → ExprTree → Bool
   fits z (ThisOf p t) = is_non_null_type (local_type z 0)
-  fits z (LocalOf p x t) = implied (fields.is_non_null t) (is_non_null_type (local_type z (number z.numbers x))) && implied (z.mine x) (is_reference t)
+  fits z (LocalOf p x t) = implied (fields.is_non_null t) (is_non_null_type (local_type z (number z.numbers x))) && implied (z.mine x) (is_class_type t)
   fits z (ResultOf p t) = false
   fits z (OldOf p e) = false
   fits z (IffOf p a b) = fits z a && fits z b
@@ -147,7 +147,7 @@ HasMade z made = (i : ℕ) (t : Ty) → slice_get made i ≡ Some t → local_ty
 
 abbrev pub is_reference_type : Option Ty → Bool
 is_reference_type None = false
-is_reference_type (Some t) = is_reference t
+is_reference_type (Some t) = is_class_type t
 
 -- a left side, which wants no more in the elaboration than here
 abbrev pub target_fits : Frame → ExprTree → Bool

@@ -9,7 +9,7 @@ pub mod Construction
 pub mod Fields
 pub mod Fitting
 pub mod Bodies
-pub mod ContractLaws
+pub mod ContractParts
 pub mod Typed
 pub mod Nulls
 pub mod Whole

@@ -8,7 +8,7 @@ ghost use Rattle.ss_resolver_types_expressions.specs.Programs.{type_faults};
 ghost use Rattle.ss_nonnull_rules.specs.Program.{null_faults};
 ghost use Rattle.ss_owners_rules.specs.Program.{ownership_faults};
 ghost use Rattle.ss_expand_formed.specs.Laws.{core_of};
-ghost use Rattle.ss_expand_formed.specs.ContractLaws.{HaveDefaults, HaveEntries, HaveExits, HaveNamed, HaveInvariants};
+ghost use Rattle.ss_expand_formed.specs.ContractParts.{HaveDefaults, HaveEntries, HaveExits, HaveNamed, HaveInvariants};
 
 /// The default conditions of a body speak of `this` where it has one, of its class, and of arguments that are references.
 pub fn have_defaults()

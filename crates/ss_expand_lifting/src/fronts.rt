@@ -6,11 +6,12 @@ ghost use Rattle.ss_core.specs.declared.names.Place.{Place};
 ghost use Rattle.ss_core.specs.declared.names.Ty.{Ty};
 ghost use Rattle.ss_core.specs.declared.stmt.Stmt.{Stmt};
 ghost use Rattle.ss_core.specs.Tree as core;
+ghost use Rattle.ss_core.specs.Parts as core_parts;
 ghost use Rattle.ss_typed.specs.Tree.{ExprTree};
 ghost use Rattle.ss_expand_rules.specs.Calls as calls;
 ghost use Rattle.ss_expand_rules.specs.Lifting as elab;
 ghost use Rattle.ss_expand_rules.specs.Numbers.{plain};
-ghost use Rattle.ss_expand_expressions.specs.Views.{numbers_of, core_linked, path_of};
+ghost use Rattle.ss_expand_expressions.specs.Views.{numbers_of, path_of};
 ghost use Rattle.ss_typed.specs.Parts.{link_behind, linked, step_behind, stepped};
 ghost use Rattle.ss_expand_expressions.specs.Sources.{source_of};
 ghost use Rattle.ss_expand_expressions.specs.Operands.{IsOperand};
@@ -100,7 +101,7 @@ fn chained(
     links: Vec<Link>,
 ) -> Result<Source, AllocError>
     ensures { (first : core.ExprTree) → source_of source ≡ elab.Pure first
-        → IfOk result (λ r. source_of r ≡ elab.Pure (core_linked place first links.items)) }
+        → IfOk result (λ r. source_of r ≡ elab.Pure (core_parts.chain_front place first links.items)) }
 {
     match source {
         Source::Pure(first) => {

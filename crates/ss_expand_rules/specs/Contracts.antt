@@ -1,11 +1,10 @@
 -- Contracts: the default contract first, and then what is written and inherited.
 use Rattle.std.specs.Prelude.{ℕ, ◌+◌, List, [], ◌∷◌, ◌++◌, map, reverse, filter_map, flat_map, Bool, true, false, not, ◌&&◌, ◌||◌, if◌then◌else◌, Option, Some, None}
 use Rattle.ss_core.specs.declared.names.Place.{Place}
-use Rattle.ss_core.specs.declared.names.Ty.{Ty}
-use Rattle.ss_core.specs.declared.names.Ty.TheVariants as ty
 use Rattle.ss_core.specs.Tree as core
 use Rattle.ss_core.specs.Tree.{DefaultTree, AtLevel, Unpacked, ThisUnowned, Defaults, OwnedFull, Full, ConsistentArgument, FullArgument, Captured, LocalExpr, DefaultExpr, NamedTree, UptoOf}
 use Rattle.ss_core.specs.Chain.{levels}
+use Rattle.ss_core.specs.Types.{is_class_type}
 use Rattle.ss_typed.specs.Tree.{ExprTree, ParamTree, ModifiedTree, OneOf, AllOf, ElementsOf, BodyTree, TypedTree}
 use Rattle.ss_expand_rules.specs.Program.{is_declared_by, method_at}
 use Rattle.ss_expand_rules.specs.Numbers.{Numbers, plain, all_plain}
@@ -21,10 +20,6 @@ of_this_at_entry b t =
     else if b.flags.pure then Full ∷ []
     else AtLevel t ∷ []
 
-abbrev pub is_reference : Ty → Bool
-is_reference (ty.Ref t non_null) = true
-is_reference t = false
-
 -- of the reference argument x
 abbrev pub of_argument : BodyTree → ℕ → DefaultTree
 of_argument b x = if b.flags.pure then FullArgument x else ConsistentArgument x
@@ -35,7 +30,7 @@ where_asked asked d = if asked then d ∷ [] else []
 -- Capture condition: that of a captured parameter stands behind its argument's own, whatever else the method is marked.
 abbrev pub of_param : BodyTree → ℕ → ParamTree → List DefaultTree
 of_param b x q =
-    where_asked (is_reference q.ty && not b.flags.no_default_contract) (of_argument b x) ++ where_asked q.captured (Captured x (not b.flags.is_static))
+    where_asked (is_class_type q.ty && not b.flags.no_default_contract) (of_argument b x) ++ where_asked q.captured (Captured x (not b.flags.is_static))
 
 -- of these parameters, of which the first has the number x
 abbrev pub of_params : BodyTree → ℕ → List ParamTree → List DefaultTree

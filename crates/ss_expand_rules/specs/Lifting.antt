@@ -9,6 +9,7 @@ use Rattle.ss_core.specs.declared.expr.Operator.TheVariants as op
 use Rattle.ss_core.specs.Tree as core
 use Rattle.ss_core.specs.Tree.{LocalExpr, NullExpr, FieldExpr, ElementExpr, LengthExpr, NegateExpr, NotExpr, BinaryExpr, IffExpr, IsExpr, AsExpr, CastExpr, CalleeTree, Dispatched, Static, Base, AssignStmt, NewStmt, NewArrayStmt, CallStmt, IfStmt, NoCode}
 use Rattle.ss_core.specs.View.{code_of}
+use Rattle.ss_core.specs.Types.{nullable}
 use Rattle.ss_typed.specs.Tree.{ExprTree, IffOf, ImpliesOf, BinaryOf, IsOf, AsOf, NegateOf, NotOf, CastOf, FieldOf, ElementOf, LengthOf, NewOf, NewArrayOf, CallOf, StaticOf, BaseOf, Arguments, NoMore, Argument, BodyTree, TypedTree}
 use Rattle.ss_typed.specs.Types.{class_type, type_of}
 use Rattle.ss_expand_rules.specs.Program.{above_of, method_at, number_of_written, number_in_table}
@@ -74,12 +75,8 @@ unlifted e made = record { code = []; source = Pure e; made = made }
 abbrev pub next : Numbers → List Ty → ℕ
 next ns made = ns.first_temporary + length made
 
--- a temporary may hold null: where it doesn't, that is known from its assignment
-abbrev pub nullable : Ty → Ty
-nullable (ty.Ref t non_null) = ty.Ref t false
-nullable t = t
-
--- the type of a temporary is that of its value; the literal `null` has the type that is wanted of it
+-- A temporary may hold null: where it doesn't, that is known from its assignment.
+-- Its type is that of its value; the literal `null` has the type that is wanted of it.
 abbrev pub temporary_type : Ty → Option Ty → Ty
 temporary_type wanted None = nullable wanted
 temporary_type wanted (Some ty.Null) = nullable wanted

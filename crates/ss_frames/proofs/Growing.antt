@@ -7,7 +7,8 @@ use Rattle.ss_logic.specs.Terms.{Term, Element, app}
 use Rattle.ss_logic.specs.Shapes.{equal, allocated, ready, group, owner_of}
 use Rattle.ss_logic.specs.Formulas.{Formula, And, Or, neg, neg_all, formulas_from, formula_then}
 use Rattle.ss_logic.specs.Frames as logic
-use Rattle.ss_logic.specs.Frames.{NamesField, NamesAll, NamesUpto, NamesElements, OwnerTerm, is_named, unless, or_of, and_of, in_group_of, owned_by}
+use Rattle.ss_logic.specs.Frames.{NamesField, NamesAll, NamesUpto, NamesElements, OwnerTerm, is_named, unless, in_group_of, owned_by}
+use Rattle.ss_logic.specs.Express.{or_of, and_of}
 use Rattle.ss_terms.specs.declared.forms.TermId.{TermId}
 use Rattle.ss_terms.specs.declared.forms.FormulaId.{FormulaId}
 use Rattle.ss_terms.specs.Forms.{Forms, term_at, formula_at, formulas_at, HasTerm, HasFormula, HasFormulas, AreBelow, IsGrown}

@@ -8,7 +8,8 @@ use Rattle.ss_logic.specs.Terms.{terms_from}
 use Rattle.ss_logic.specs.Formulas.{Predicate, Allocated, Committed, Formula, Literal, And, Or, neg, formulas_from}
 use Rattle.ss_logic.specs.Shapes.{equal, allocated, committed, owner_of}
 use Rattle.ss_logic.specs.Frames as logic
-use Rattle.ss_logic.specs.Frames.{the_object, in_group_of, owned_by, is_free, is_outside, lifted, is_named, names_level, names_elements, all_named, and_of, iff, unless, level_kept, fields_kept, object_kept, objects_kept, array_kept, elements_kept, others_full, kept}
+use Rattle.ss_logic.specs.Frames.{the_object, in_group_of, owned_by, is_free, is_outside, lifted, is_named, names_level, names_elements, all_named, iff, unless, level_kept, fields_kept, object_kept, objects_kept, array_kept, elements_kept, others_full, kept}
+use Rattle.ss_logic.specs.Express.{and_of}
 use Rattle.ss_terms.specs.declared.forms.TermId.{TermId}
 use Rattle.ss_terms.specs.declared.forms.FormulaId.{FormulaId}
 use Rattle.ss_terms.specs.Forms.{Forms, term_at, terms_at, formula_at, formulas_at, HasTerm, HasTerms, IsGrown}

@@ -1,7 +1,8 @@
 // Formulas with one more part, and lists of formulas.
 
 ghost use Rattle.std.specs.Prelude.{◌≡◌, ◌++◌, [], ◌∷◌, IfOk};
-ghost use Rattle.ss_logic.specs.Frames.{or_of, unless};
+ghost use Rattle.ss_logic.specs.Frames.{unless};
+ghost use Rattle.ss_logic.specs.Express.{or_of};
 ghost use Rattle.ss_terms.specs.Forms.{formula_at, formulas_at, HasFormula, HasFormulas, IsGrown};
 ghost use Rattle.ss_frames.specs.Calls.{IsMade};
 

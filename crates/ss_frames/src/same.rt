@@ -4,7 +4,8 @@ ghost use Rattle.std.specs.Prelude.{◌≡◌, [], ◌∷◌, IfOk};
 ghost use Rattle.ss_logic.specs.Terms.{app, terms_from};
 ghost use Rattle.ss_logic.specs.Formulas.{Literal, Committed};
 ghost use Rattle.ss_logic.specs.Shapes.{equal, committed, level_of, type_of};
-ghost use Rattle.ss_logic.specs.Frames.{and_of, the_object, the_index, array_kept, iff};
+ghost use Rattle.ss_logic.specs.Frames.{the_object, the_index, array_kept, iff};
+ghost use Rattle.ss_logic.specs.Express.{and_of};
 ghost use Rattle.ss_terms.specs.Forms.{term_at, symbol_of, HasTerm, IsGrown};
 ghost use Rattle.ss_frames.specs.Calls.{call_at, HasCall, IsTerm, IsMade};
 

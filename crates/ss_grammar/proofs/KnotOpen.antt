@@ -1,4 +1,4 @@
--- The same, with a property of the language beside it: which values are open, and how open and closed ones go on.
+-- A nonterminal that stands in itself, one level deeper: which of its values are open, and how open and closed ones go on.
 use Rattle.std.proofs.Common.{◌≡◌, ℕ, zero, suc, ◌+◌, List, [], ◌∷◌, ◌++◌, Option, Result, Err, Bool, true, false, subst, arith}
 use Rattle.ss_grammar.specs.declared.fault.Fault.{Fault}
 use Rattle.ss_grammar.specs.declared.fault.Fault.TheVariants.{Expected}

@@ -1,4 +1,4 @@
--- The same where the readers are right below a level.
+-- Each way of reading finds what its language says, where the readers of its parts are right below a level.
 use Rattle.std.proofs.Common.{◌≡◌, ℕ, zero, suc, ◌<◌, List, [], ◌∷◌, length, Option, Some, None, Result, Ok, Err, Bool, true, false, refl, sym, subst, arith}
 use Rattle.std.specs.Prelude.{◌||◌, ◌&&◌}
 use Rattle.ss_grammar.specs.declared.fault.Fault.{Fault}

@@ -1,5 +1,5 @@
 -- Reading from left to right with one token of sight: a value and the rest, or the first fault and the rest where it stands.
-use Rattle.std.specs.Prelude.{ℕ, zero, suc, List, [], ◌∷◌, Option, Some, None, Result, Ok, Err}
+use Rattle.std.specs.Prelude.{ℕ, zero, suc, Bool, false, List, [], ◌∷◌, Option, Some, None, Result, Ok, Err}
 use Rattle.ss_grammar.specs.declared.fault.Fault.{Fault}
 use Rattle.ss_grammar.specs.declared.fault.Fault.TheVariants.{Expected}
 
@@ -32,6 +32,11 @@ maybe f k a (t ∷ ts) = after (f t) k (Ok (a, t ∷ ts)) ts
 abbrev pub times : {T A B R : Type 0} → (T → Option B) → (B → List T → Result (R × List T) (Fault × List T)) → (A → B → R → A) → ℕ → A → List T → Result (A × List T) (Fault × List T)
 times f k join zero a ts = Ok (a, ts)
 times f k join (suc n) a ts = maybe f (λ b rest. k b rest >>= λ x. times f k join n (join a b x.0) x.1) a ts
+
+-- whether f knows the next token
+abbrev pub ahead : {T : Type 0} → (T → Bool) → List T → Bool
+ahead f [] = false
+ahead f (t ∷ ts) = f t
 
 -- the known token with what is behind it
 abbrev pub seen_as : {T B : Type 0} → Option B → List T → Option (B × List T)

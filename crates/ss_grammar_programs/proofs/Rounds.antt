@@ -1,10 +1,10 @@
 -- A loop that reads one more part in each turn, where the next token tells whether there is one more.
 use Rattle.std.proofs.Common.{◌≡◌, ℕ, zero, suc, ◌<◌, ◌≤◌, List, [], ◌∷◌, length, Option, Some, None, Result, Ok, Err, Bool, true, false, refl, sym, ap, subst, ◌∙◌, arith}
 use Rattle.ss_grammar.specs.declared.fault.Fault.{Fault}
-use Rattle.ss_grammar.specs.Reading.{◌>>=◌, take, seen, seen_as}
+use Rattle.ss_grammar.specs.Reading.{◌>>=◌, take, seen, seen_as, ahead}
 use Rattle.ss_grammar_expressions.specs.First.{chosen}
-use Rattle.ss_grammar_expressions.specs.Heads.{is}
-use Rattle.ss_grammar_programs.specs.Again.{again, ahead, when_so, another}
+use Rattle.ss_grammar_expressions.specs.Heads.{is, if_so}
+use Rattle.ss_grammar_programs.specs.Again.{again, another}
 
 -- with the value a and the rest ts, enough turns are left, and they give the total
 pub record Rounds {T A R : Type 0} (f : A → T → Bool) (p : List T → Result (R × List T) (Fault × List T)) (join : A → R → A) (a : A) (ts : List T) (total : Result (A × List T) (Fault × List T)) : Type 0 where
@@ -21,9 +21,9 @@ module _ {T A R : Type 0} (f : A → T → Bool) (p : List T → Result (R × Li
   some_round n a (t ∷ ts) q e = at (f a t) refl
     where
       at : (b : Bool) → f a t ≡ b → again f p join (suc n) a (t ∷ ts) ≡ (q >>= λ x. again f p join n (join a x.0) x.1)
-      at false h = absurd (let g : when_so false (p (t ∷ ts)) ≡ Some q = subst (λ b. when_so b (p (t ∷ ts)) ≡ Some q) h e in cc)
+      at false h = absurd (let g : if_so false (p (t ∷ ts)) ≡ Some q = subst (λ b. if_so b (p (t ∷ ts)) ≡ Some q) h e in cc)
       at true h =
-          let g : p (t ∷ ts) ≡ q = (let w : when_so true (p (t ∷ ts)) ≡ Some q = subst (λ b. when_so b (p (t ∷ ts)) ≡ Some q) h e in cc) in
+          let g : p (t ∷ ts) ≡ q = (let w : if_so true (p (t ∷ ts)) ≡ Some q = subst (λ b. if_so b (p (t ∷ ts)) ≡ Some q) h e in cc) in
           ap (λ b. chosen b (λ us. p us >>= λ x. again f p join n (join a x.0) x.1) (λ us. Ok (a, us)) (t ∷ ts)) h ∙ ap (λ r. r >>= λ x. again f p join n (join a x.0) x.1) g
 
   not_nil : (a : A) (ts : List T) (q : Result (R × List T) (Fault × List T)) → another (f a) p ts ≡ Some q → 0 < length ts
@@ -52,7 +52,7 @@ module _ {T A R : Type 0} (f : A → T → Bool) (p : List T → Result (R × Li
   pub rounds_end : (a : A) (ts : List T) (total : Result (A × List T) (Fault × List T)) → ahead (f a) ts ≡ false → Rounds f p join a ts total → total ≡ Ok (a, ts)
   rounds_end a ts total e h = sym h.gives ∙ last_round h.count a ts e
 
-  none_ahead : (b : Bool) (q : Result (R × List T) (Fault × List T)) → when_so b q ≡ None → b ≡ false
+  none_ahead : (b : Bool) (q : Result (R × List T) (Fault × List T)) → if_so b q ≡ None → b ≡ false
   none_ahead true q e = absurd cc
   none_ahead false q e = refl
 
@@ -73,7 +73,7 @@ module _ {T B : Type 0} (f : T → Option B) where
       at None h = absurd (let g : seen_as None ts ≡ Some (b, rest) = subst (λ o. seen_as o ts ≡ Some (b, rest)) h e in cc)
       at (Some c) h =
           let g : (c, ts) ≡ (b, rest) = (let q : seen_as (Some c) ts ≡ Some (b, rest) = subst (λ o. seen_as o ts ≡ Some (b, rest)) h e in cc) in
-          ap (λ o. when_so (Rattle.ss_grammar_expressions.specs.Heads.found o) (Rattle.ss_grammar.specs.Reading.after o (λ b ts. Ok (b, ts)) (Err (Rattle.ss_grammar.specs.declared.fault.Fault.TheVariants.Expected, t ∷ ts)) ts)) h ∙ ap (λ (q : B × List T). Some (Ok q)) g
+          ap (λ o. if_so (Rattle.ss_grammar_expressions.specs.Heads.found o) (Rattle.ss_grammar.specs.Reading.after o (λ b ts. Ok (b, ts)) (Err (Rattle.ss_grammar.specs.declared.fault.Fault.TheVariants.Expected, t ∷ ts)) ts)) h ∙ ap (λ (q : B × List T). Some (Ok q)) g
 
   pub none_seen : (ts : List T) → seen f ts ≡ None → ahead (is f) ts ≡ false
   none_seen [] e = refl

@@ -2,8 +2,9 @@
 use Rattle.std.specs.Prelude.{ℕ, zero, suc, Bool, true, false, List, [], ◌∷◌, Option, Some, None, Result, Ok}
 use Rattle.ss_grammar.specs.declared.fault.Fault.{Fault}
 use Rattle.ss_grammar.specs.Language.{Done, Bind}
-use Rattle.ss_grammar.specs.Reading.{◌>>=◌}
+use Rattle.ss_grammar.specs.Reading.{◌>>=◌, ahead}
 use Rattle.ss_grammar_expressions.specs.First.{Choose, choose}
+use Rattle.ss_grammar_expressions.specs.Heads.{if_so}
 
 -- at most n times one more of L, where f knows the next token; join makes the next value of the value so far, on which f may depend
 abbrev pub AtMost : {T A R : Type 0} → (A → T → Bool) → (List T → R → Type 0) → (A → R → A) → ℕ → A → List T → A → Type 0
@@ -19,15 +20,6 @@ abbrev pub again : {T A R : Type 0} → (A → T → Bool) → (List T → Resul
 again f p join zero a ts = Ok (a, ts)
 again f p join (suc n) a ts = choose (f a) (λ us. p us >>= λ x. again f p join n (join a x.0) x.1) (λ us. Ok (a, us)) ts
 
--- whether f knows the next token
-abbrev pub ahead : {T : Type 0} → (T → Bool) → List T → Bool
-ahead f [] = false
-ahead f (t ∷ ts) = f t
-
-abbrev pub when_so : {X : Type 0} → Bool → X → Option X
-when_so true x = Some x
-when_so false x = None
-
 -- one more, where f knows the next token
 abbrev pub another : {T R : Type 0} → (T → Bool) → (List T → Result (R × List T) (Fault × List T)) → List T → Option (Result (R × List T) (Fault × List T))
-another f p ts = when_so (ahead f ts) (p ts)
+another f p ts = if_so (ahead f ts) (p ts)

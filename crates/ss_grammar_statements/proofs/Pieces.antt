@@ -1,5 +1,6 @@
 -- Which tokens each head function knows, and the sets of the grammar of statements.
 use Rattle.std.proofs.Common.{◌≡◌, ℕ, List, [], ◌∷◌, ◌++◌, Option, Some, None, option_map, true, refl}
+use Rattle.std.specs.Option.{option_or}
 use Rattle.ss_core.specs.declared.names.Place.{Place}
 use Rattle.ss_ast.specs.declared.token.Symbol.{Symbol}
 use Rattle.ss_ast.specs.declared.token.Symbol.TheVariants as symbol
@@ -10,7 +11,7 @@ use Rattle.ss_grammar.proofs.Facts.{known}
 use Rattle.ss_grammar_expressions.specs.Heads.{Piece, AToken, LeftOut, a_name, type_word, unary_kind}
 use Rattle.ss_grammar_expressions.proofs.Sets.{code, code_of, mem, In, subset_in}
 use Rattle.ss_grammar_expressions.proofs.Pieces.{name_in, word_type_in, expr_goes}
-use Rattle.ss_grammar_statements.specs.Heads.{or_else, prim_of, prim_head, simple_of, simple_head, next_of, next_head, TypeFirst, NameFirst, PrimFirst, start_head, StmtHead, StartFirst, stmt_kind, stmt_head, other_head}
+use Rattle.ss_grammar_statements.specs.Heads.{prim_of, prim_head, simple_of, simple_head, next_of, next_head, TypeFirst, NameFirst, PrimFirst, start_head, StmtHead, StartFirst, stmt_kind, stmt_head, other_head}
 
 abbrev pub prim_first : List ℕ
 prim_first = 54 ∷ 76 ∷ 77 ∷ 33 ∷ 34 ∷ 32 ∷ 15 ∷ 56 ∷ 57 ∷ 55 ∷ 53 ∷ 75 ∷ 58 ∷ 74 ∷ []
@@ -97,7 +98,7 @@ next_in (AToken t) e = at t.place t.kind e
     at p (AName n) h = refl
     at p _ h = absurd cc
 
-either : {A B C : Type 0} (a : Option A) (b : Option B) (f : A → C) → (g : Option C) → known (or_else (option_map f a) g) ≡ true → (P : Type 0) → (known a ≡ true → P) → (known g ≡ true → P) → P
+either : {A B C : Type 0} (a : Option A) (b : Option B) (f : A → C) → (g : Option C) → known (option_or (option_map f a) g) ≡ true → (P : Type 0) → (known a ≡ true → P) → (known g ≡ true → P) → P
 either (Some x) b f g e P i j = i refl
 either None b f g e P i j = j e
 
@@ -106,7 +107,7 @@ mapped f (Some x) e = refl
 mapped f None e = absurd cc
 
 pub start_in : (t : Piece) → known (start_head t) ≡ true → In start_first t ≡ true
-start_in t e = either (type_word t) (type_word t) TypeFirst (or_else (option_map NameFirst (a_name t)) (option_map PrimFirst (prim_head t))) e (In start_first t ≡ true)
+start_in t e = either (type_word t) (type_word t) TypeFirst (option_or (option_map NameFirst (a_name t)) (option_map PrimFirst (prim_head t))) e (In start_first t ≡ true)
     (λ h. subset_in (code t) (50 ∷ 51 ∷ 52 ∷ []) start_first refl (word_type_in t h))
     (λ g. either (a_name t) (a_name t) NameFirst (option_map PrimFirst (prim_head t)) g (In start_first t ≡ true)
     (λ h. subset_in (code t) (32 ∷ []) start_first refl (name_in t h))
@@ -136,7 +137,7 @@ own_in p (AWord w) h = wd p w h
     wd p _ h = absurd cc
 own_in p _ h = absurd cc
 
-or_known : {A : Type 0} (a b : Option A) → known (or_else a b) ≡ true → (P : Type 0) → (known a ≡ true → P) → (known b ≡ true → P) → P
+or_known : {A : Type 0} (a b : Option A) → known (option_or a b) ≡ true → (P : Type 0) → (known a ≡ true → P) → (known b ≡ true → P) → P
 or_known (Some x) b e P i j = i refl
 or_known None b e P i j = j e
 

@@ -1,5 +1,6 @@
 -- Which tokens a statement and its parts may begin with, and what each of them says.
 use Rattle.std.specs.Prelude.{Bool, true, false, Option, Some, None, option_map}
+use Rattle.std.specs.Option.{option_or}
 use Rattle.ss_core.specs.declared.names.Place.{Place}
 use Rattle.ss_ast.specs.declared.token.Word.{Word}
 use Rattle.ss_ast.specs.declared.token.Word.TheVariants as word
@@ -13,10 +14,6 @@ use Rattle.ss_ast.specs.declared.stmt.StepOperator.TheVariants as by_one
 use Rattle.ss_ast.specs.Tokens.{Kind, AWord, ASymbol, AName}
 use Rattle.ss_ast.specs.Expressions.{NameTree, ExprTree}
 use Rattle.ss_grammar_expressions.specs.Heads.{Piece, AToken, LeftOut, a_name, TypeHead, type_word, Head, NegateHead, NotHead, OpenHead, Leaf, OldHead, NewHead, QuantifierHead, unary_head}
-
-abbrev pub or_else : {A : Type 0} → Option A → Option A → Option A
-or_else (Some a) b = Some a
-or_else None b = b
 
 -- ---- paths
 
@@ -118,7 +115,7 @@ pub data StartHead : Type 0 where
   PrimFirst : PrimHead → StartHead
 
 abbrev pub start_head : Piece → Option StartHead
-start_head t = or_else (option_map TypeFirst (type_word t)) (or_else (option_map NameFirst (a_name t)) (option_map PrimFirst (prim_head t)))
+start_head t = option_or (option_map TypeFirst (type_word t)) (option_or (option_map NameFirst (a_name t)) (option_map PrimFirst (prim_head t)))
 
 abbrev pub start_opens : StartHead → Bool
 start_opens (TypeFirst t) = false
@@ -160,7 +157,7 @@ stmt_kind p (AWord w) = stmt_word p w
 stmt_kind p _ = None
 
 abbrev pub stmt_head : Piece → Option StmtHead
-stmt_head (AToken t) = or_else (stmt_kind t.place t.kind) (option_map StartFirst (start_head (AToken t)))
+stmt_head (AToken t) = option_or (stmt_kind t.place t.kind) (option_map StartFirst (start_head (AToken t)))
 stmt_head LeftOut = None
 
 -- `{` and `(` open a level

@@ -174,17 +174,6 @@ other_part b p t e = ap (λ c. (p.coefficient *ℤ (if c then pos 1 else pos 0))
 
 -- ---- differences
 
-pub one_is : (z : ℤ) → is_one z ≡ true → z ≡ pos 1
-one_is (pos (suc zero)) h = refl
-one_is (pos zero) h = let no : ⊥ = cc in absurd no
-one_is (pos (suc (suc n))) h = let no : ⊥ = cc in absurd no
-one_is (negsuc n) h = let no : ⊥ = cc in absurd no
-
-pub less_one_is : (z : ℤ) → is_less_one z ≡ true → z ≡ negsuc 0
-less_one_is (negsuc zero) h = refl
-less_one_is (negsuc (suc n)) h = let no : ⊥ = cc in absurd no
-less_one_is (pos n) h = let no : ⊥ = cc in absurd no
-
 pub plus_value : (v : Term → ℤ) (t : Term) (z : ℤ) → z ≡ pos 1 → parts_at v ((t, z) ∷ []) ≡ end_value v (Some t) -ℤ end_value v None
 plus_value v t z e = ap (λ y. (y *ℤ v t) +ℤ pos 0) e ∙ omega (arith, ints, product_is (pos 1) (v t))
 

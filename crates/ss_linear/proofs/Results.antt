@@ -25,7 +25,8 @@ use Rattle.ss_linear_sums.specs.Weighted.{divided_part}
 use Rattle.ss_linear_rules.specs.Two.{is_one, Refute}
 use Rattle.ss_linear.specs.Contradictions.{IsContradiction, summed, sums_of}
 use Rattle.ss_linear.specs.Results.{AreOthers, IsNext, AreNext, IsResult}
-use Rattle.ss_linear.proofs.Glue.{mapped_more, one_is}
+use Rattle.ss_linear.proofs.Glue.{mapped_more}
+use Rattle.ss_linear_rules.proofs.Cancelling.{one_is}
 
 pub none_then : {X E A B : Type 0} (r : Result (Option X) E) → (A → B) → IfOk r (λ o. IfNone o A) → IfOk r (λ o. IfNone o B)
 none_then (Ok (Some x)) f h = tt

@@ -11,7 +11,8 @@ use Rattle.ss_logic.specs.Shapes.{equal}
 use Rattle.ss_logic.specs.Sums.{LinearSum, SumFact, add_times, sum_times, linear, difference, sum_fact, sum_fact_of}
 use Rattle.ss_linear_rules.specs.Two.{fact_at, Two}
 use Rattle.ss_linear_rules.specs.Valued.{sum_at, IsMetBy, IsMetAt}
-use Rattle.ss_linear_rules.proofs.Values.{some_is, add_times_value}
+use Rattle.ss_linear_rules.proofs.Values.{add_times_value}
+use Rattle.ss_logic.proofs.Summed.{some_is}
 use Rattle.ss_linear.specs.Met.{Meets, MeetsSome, IsSeen, AllMet, AllSaid, AreMet}
 use Rattle.ss_linear.proofs.Tests.{none_found}
 

@@ -12,7 +12,8 @@ use Rattle.ss_linear_rules.specs.Two.{fact_at, IsUnit, Two, Refute}
 use Rattle.ss_linear_rules.specs.Few.{IsNone, AreZero}
 use Rattle.ss_linear_rules.specs.Valued.{sum_at, IsMetBy, IsMetAt, MeetsDifferences}
 use Rattle.ss_linear_rules.proofs.Few.{gives_false, none_weighted, none_other, none_without, none_second, two_false}
-use Rattle.ss_linear_rules.proofs.Values.{some_is, met_false}
+use Rattle.ss_linear_rules.proofs.Values.{met_false}
+use Rattle.ss_logic.proofs.Summed.{some_is}
 use Rattle.ss_linear.specs.Contradictions.{IsContradiction, IsTested, IsFreeOf, IsFreeAlone, IsFreeOfAll, IsFree, IsClear, IsContradictionOr}
 
 -- ---- numbers with signs

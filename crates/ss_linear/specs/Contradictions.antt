@@ -16,7 +16,8 @@ use Rattle.ss_linear_rules.specs.Two.{IsFalse, IsUnit}
 use Rattle.ss_linear_rules.specs.Few.{IsNone}
 use Rattle.ss_linear_rules.specs.Valued.{parts_at, IsMetAt}
 use Rattle.ss_linear_rules.specs.Nodes.{end_value}
-use Rattle.ss_linear_network.specs.Made.{term_of, HasTermOf}
+use Rattle.ss_linear_network.specs.Made.{term_of}
+use Rattle.ss_terms.specs.Numbered.{HasTermOf}
 use Rattle.ss_linear.specs.declared.ends.Ends.{Ends}
 
 -- the divisor of a sum, and its weights

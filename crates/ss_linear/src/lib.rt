@@ -17,3 +17,4 @@ mod steps;
 pub use met::are_met;
 pub use numbers::{is_so, numbers_of};
 pub use refuted::{refute, refute_with};
+pub use ss_deriv::Sum;

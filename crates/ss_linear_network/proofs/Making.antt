@@ -25,7 +25,7 @@ use Rattle.ss_linear_rules.specs.Two.{fact_at, is_difference, parts_left, are_op
 use Rattle.ss_linear_rules.specs.Valued.{fact_value, parts_at}
 use Rattle.ss_linear_rules.specs.Nodes.{place, node_number, AreOnce, IsEnd, IsEdgeOf, HasEdges, IsNetwork, no_origin, origins_at}
 use Rattle.ss_linear_rules.proofs.Networks.{edge_still, end_still, end_number, end_inside, place_most, place_first, place_past, place_last, once_pushed, got_last, got_place, none_once, zip_weaker}
-use Rattle.ss_linear_rules.proofs.Values.{some_is}
+use Rattle.ss_logic.proofs.Summed.{some_is}
 use Rattle.ss_linear_network.specs.declared.nodes.Nodes.{Nodes}
 use Rattle.ss_linear_network.specs.declared.network.Difference.{Difference}
 use Rattle.ss_linear_network.specs.declared.network.Network.{Network}

@@ -23,10 +23,6 @@ abbrev pub term_of : Forms → Option TermId → Option Term
 term_of b None = None
 term_of b (Some t) = Some (term_at b t)
 
-abbrev pub HasTermOf : Forms → Option TermId → Type 0
-HasTermOf b None = Unit {0}
-HasTermOf b (Some t) = HasTerm b t
-
 -- the terms are the bank's, and the table has the place of each, where it is one of the list
 pub record AreNodesOf (b : Forms) (n : Nodes) : Type 0 where
   pub terms : HasTerms b n.terms.items

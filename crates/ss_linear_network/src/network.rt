@@ -7,7 +7,8 @@ ghost use Rattle.ss_logic.specs.Formulas.{Formula};
 ghost use Rattle.ss_terms.specs.Forms.{Forms, term_at, HasTerm};
 ghost use Rattle.ss_linear_rules.specs.Nodes.{origins_at};
 ghost use Rattle.ss_linear_paths.specs.Edges.{label};
-ghost use Rattle.ss_linear_network.specs.Made.{AreNodesOf, HasTermOf, edges_of, places_of, IsNetworkOf, IsDifferenceOf, IsSound, numbers_at, IsSolved, HasNumbers};
+ghost use Rattle.ss_linear_network.specs.Made.{AreNodesOf, edges_of, places_of, IsNetworkOf, IsDifferenceOf, IsSound, numbers_at, IsSolved, HasNumbers};
+ghost use Rattle.ss_terms.specs.Numbered.{HasTermOf};
 
 use crate::nodes::Nodes;
 use ss_linear_paths::{Edge, Found, shortest};

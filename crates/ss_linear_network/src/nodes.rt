@@ -3,7 +3,8 @@
 ghost use Rattle.std.specs.Prelude.{◌≡◌, ◌≤◌, [], length, Some, IfOk, OnOk};
 ghost use Rattle.ss_terms.specs.Forms.{Forms, term_at, terms_at, HasTerm};
 ghost use Rattle.ss_linear_rules.specs.Nodes as spec;
-ghost use Rattle.ss_linear_network.specs.Made.{AreNodesOf, HasEnd, HasTermOf, term_of};
+ghost use Rattle.ss_linear_network.specs.Made.{AreNodesOf, HasEnd, term_of};
+ghost use Rattle.ss_terms.specs.Numbered.{HasTermOf};
 
 use indexmap::IndexMap;
 use ss_terms::{Bank, TermId};

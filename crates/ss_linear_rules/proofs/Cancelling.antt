@@ -17,7 +17,8 @@ use Rattle.ss_logic.proofs.NumbersInSums.{one_times, times_zero, zero_is, sum_ze
 use Rattle.ss_linear_rules.specs.Two.{IsFalse, is_one, is_less_one, parts_left, are_opposite, is_difference, fact_at, IsUnit}
 use Rattle.ss_linear_rules.specs.Few.{one_at}
 use Rattle.ss_linear_rules.specs.Valued.{parts_at, sum_at, fact_value, total, IsUsed}
-use Rattle.ss_linear_rules.proofs.Values.{some_is, by_one, add_times_value}
+use Rattle.ss_linear_rules.proofs.Values.{by_one, add_times_value}
+use Rattle.ss_logic.proofs.Summed.{some_is}
 
 either : (b : Bool) → (b ≡ true) ⊎ (b ≡ false)
 either true = inl refl
@@ -82,13 +83,13 @@ add_parts_some n (q ∷ qs) ps m c h k l =
 
 -- ---- differences
 
-one_is : (z : ℤ) → is_one z ≡ true → z ≡ pos 1
+pub one_is : (z : ℤ) → is_one z ≡ true → z ≡ pos 1
 one_is (pos (suc zero)) h = refl
 one_is (pos zero) h = let no : ⊥ = cc in absurd no
 one_is (pos (suc (suc n))) h = let no : ⊥ = cc in absurd no
 one_is (negsuc n) h = let no : ⊥ = cc in absurd no
 
-less_one_is : (z : ℤ) → is_less_one z ≡ true → z ≡ negsuc 0
+pub less_one_is : (z : ℤ) → is_less_one z ≡ true → z ≡ negsuc 0
 less_one_is (negsuc zero) h = refl
 less_one_is (negsuc (suc n)) h = let no : ⊥ = cc in absurd no
 less_one_is (pos n) h = let no : ⊥ = cc in absurd no

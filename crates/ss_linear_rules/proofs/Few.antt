@@ -15,7 +15,8 @@ use borrow.Author.Differences.{product_is}
 use Rattle.ss_linear_rules.specs.Two.{IsFalse, fact_at, IsUnit, Two}
 use Rattle.ss_linear_rules.specs.Few.{IsNone, AreZero, one_at}
 use Rattle.ss_linear_rules.specs.Valued.{parts_at, sum_at, MeetsDifferences, fact_value, total}
-use Rattle.ss_linear_rules.proofs.Values.{some_is, by_one, bounded_parts, never_false}
+use Rattle.ss_linear_rules.proofs.Values.{by_one, bounded_parts, never_false}
+use Rattle.ss_logic.proofs.Summed.{some_is}
 use Rattle.ss_linear_rules.proofs.Cancelling.{IsIn, checked_some, weighted_value, no_value}
 
 -- ---- sums without parts

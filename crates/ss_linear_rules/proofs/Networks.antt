@@ -17,7 +17,7 @@ use Rattle.ss_linear_paths.specs.Edges.{label, no_edge, edge_at, IsMet, weight_o
 use Rattle.ss_linear_rules.specs.Two.{IsFalse, fact_at}
 use Rattle.ss_linear_rules.specs.Valued.{sum_at, IsMetBy, MeetsDifferences, fact_value, total, IsUsed}
 use Rattle.ss_linear_rules.specs.Nodes.{place, number_at, node_number, AreOnce, IsEnd, IsEdgeOf, IsNetwork, no_origin, origins_at, end_value}
-use Rattle.ss_linear_rules.proofs.Values.{some_is}
+use Rattle.ss_logic.proofs.Summed.{some_is}
 use Rattle.ss_linear_rules.proofs.Cancelling.{contradict}
 
 either : (b : Bool) → (b ≡ true) ⊎ (b ≡ false)

@@ -10,22 +10,12 @@ use Rattle.ss_logic.specs.Terms.{Number, Add, Term, App, app}
 use Rattle.ss_logic.specs.Formulas.{Formula}
 use Rattle.ss_logic.specs.Equal.{same_term, equal_terms}
 use Rattle.ss_logic.specs.Shapes.{number, at_most}
-use Rattle.ss_logic.proofs.Options.{when_some, and_then_some, if_some}
-use Rattle.ss_logic.specs.Sums.{is_within, checked, plus_times, is_zero, LinearSum, number_sum, add_part, add_parts, add_times, is_weight, add_weighted, weighted, divided, multiple, sum_onto, sum_term, bounded, sum_of}
+use Rattle.ss_logic.proofs.Options.{and_then_some, if_some}
+use Rattle.ss_logic.specs.Sums.{checked, plus_times, is_zero, LinearSum, number_sum, add_part, add_parts, add_times, is_weight, add_weighted, weighted, divided, multiple, sum_onto, sum_term, bounded, sum_of}
 use Rattle.ss_logic.proofs.NumbersInSums.{product_assoc, product_sum, times_zero, coefficient_more, sum_zero, zero_sum, first_more, rest_more, regroup, onto, zero_is, zero_times, most_times, exact}
+use Rattle.ss_logic.proofs.Summed.{checked_is, plus_times_is, some_is}
 use Rattle.ss_linear_rules.specs.Two.{IsFalse, fact_at, is_difference, IsDifferenceAt}
 use Rattle.ss_linear_rules.specs.Valued.{parts_at, sum_at, IsMetBy, IsMetAt, MeetsDifferences}
-
-pub checked_is : (n r : ℤ) → checked n ≡ Some r → n ≡ r
-checked_is n r h = (when_some (is_within n) n r h).1
-
-pub plus_times_is : (a n b r : ℤ) → plus_times a n b ≡ Some r → r ≡ a +ℤ (n *ℤ b)
-plus_times_is a n b r h =
-    let p = and_then_some (λ c. checked (a +ℤ c)) (checked (n *ℤ b)) r h in
-    sym (checked_is (a +ℤ p.0) r p.2) ∙ ap (λ x. a +ℤ x) (sym (checked_is (n *ℤ b) p.0 p.1))
-
-pub some_is : {A : Type 0} (x y : A) → Some x ≡ Some y → x ≡ y
-some_is x y h = cc
 
 -- ---- a sum that is no term but a number
 

@@ -10,6 +10,7 @@ use Rattle.ss_core.specs.declared.names.Ty.{Ty}
 use Rattle.ss_core.specs.declared.names.Ty.TheVariants as ty
 use Rattle.ss_core.specs.Tree.{ClassTree}
 use Rattle.ss_core.specs.Chain.{sub, NoAlso}
+use Rattle.ss_core.specs.Types.{is_class_type}
 use Rattle.ss_store_rules.specs.Changes.{field_class, field_mark, field_type}
 use Rattle.ss_logic.specs.declared.Sort.{Sort}
 use Rattle.ss_logic.specs.declared.Sort.TheVariants as sort
@@ -22,7 +23,7 @@ use Rattle.ss_logic.specs.declared.GoodRule.{GoodRule}
 use Rattle.ss_logic.specs.declared.GoodRule.TheVariants as rule
 use Rattle.ss_logic.specs.Shapes.{when, number, null_term, class_term, level_of, owner_of, type_of, pair_of, equal, differ, at_most, sub_atom, allocated, committed, ready, group, given, natural_of, class_of_term}
 use Rattle.ss_logic.specs.Reads.{Look, FieldLook, ElementLook, LevelLook, OwnerLook, NextLook, AllocatedLook, CommittedLook, ReadyLook, LengthLook, is_look, look_from}
-use Rattle.ss_logic.specs.Good.{full_level, full_of, owned_committed, grouped_uncommitted, owned_by_number, owned_of, has_its_field, field_term, is_reference_type, marked, marked_field, marks_of, in_range, arrays_of_references, element_typed, typed_field, typed_element, level_typed, length_typed, typed_look, typed_read, level_at, typed_level, owner_allocated, is_number, typed_of, not_null, ready_field, ready_look, ready_read, ready_of}
+use Rattle.ss_logic.specs.Good.{full_level, full_of, owned_committed, grouped_uncommitted, owned_by_number, owned_of, has_its_field, field_term, marked, marked_field, marks_of, in_range, arrays_of_references, element_typed, typed_field, typed_element, level_typed, length_typed, typed_look, typed_read, level_at, typed_level, owner_allocated, is_number, typed_of, not_null, ready_field, ready_look, ready_read, ready_of}
 use Rattle.ss_logic.specs.GoodRules.{good_sentence, good_instance_of}
 use Rattle.ss_logic.proofs.Options.{if_some, and_then_some}
 use Rattle.ss_logic.proofs.Sentences.{T, V, given_true, all_true}
@@ -124,15 +125,15 @@ module _ (cs : List ClassTree) (none : NoAlso cs) (m : Structure) (s : Term) (go
       let x = holding o f a t n e h.1.1.0 in
       ap (λ v. thing (H.at (as_thing v)).owner) (held_value o f t n e x.at x.is) ∙ ap thing (stores.peer_at cs none m.table H good (W o) f a t n e x.at x.is x.allocated r)))
 
-  by_type : {P : Type 0} (y : Ty) → is_reference_type y ≡ true → ((t : ClassId) (n : Bool) → y ≡ ty.Ref t n → P) → P
+  by_type : {P : Type 0} (y : Ty) → is_class_type y ≡ true → ((t : ClassId) (n : Bool) → y ≡ ty.Ref t n → P) → P
   by_type (ty.Ref t n) e k = k t n refl
   by_type y e k = absurd (false≢true e)
 
   marked_field_true : (o : Term) (j : Option ℕ) (g : Formula) → marked_field cs s o j ≡ Some g → T cs m g
   marked_field_true o (Some f) g e =
       let p = if_some _ (marked cs s o f (field_mark cs f)) g e in
-      let q = and_parts (has_field cs f && is_reference_type (field_type cs f)) (have_sorts cs (sort.Rest ∷ []) (o ∷ [])) p.0 in
-      let r = and_parts (has_field cs f) (is_reference_type (field_type cs f)) q.0 in
+      let q = and_parts (has_field cs f && is_class_type (field_type cs f)) (have_sorts cs (sort.Rest ∷ []) (o ∷ [])) p.0 in
+      let r = and_parts (has_field cs f) (is_class_type (field_type cs f)) q.0 in
       by_type (field_type cs f) r.1 (λ t n type. marked_true o f t n r.0 type (field_mark cs f) refl g p.1)
   marked_field_true o None g e = none_some g e
 

@@ -14,7 +14,8 @@ use Rattle.ss_logic.specs.Formulas.{Formula, formulas_from, is_well_formed, AreO
 use Rattle.ss_logic.proofs.Stable.{bool_stable}
 use Rattle.ss_logic.proofs.Truth.{not_both, neg_true, formula_stable, closed_value, AllClosed-sorts, AreOf-values}
 use Rattle.ss_logic.specs.Shapes.{level_of, owner_of, type_of, equal, allocated, committed, ready, group}
-use Rattle.ss_logic.specs.Frames.{NamedTerm, NamesField, NamesAll, NamesUpto, NamesElements, OwnerTerm, CallTerms, and_of, unless, iff, the_object, in_group_of, owned_by, is_free, is_outside, is_named, names_field, names_level, names_elements, all_named, field_kept, fields_kept, element_kept, object_kept, array_kept, kept, object_grown, grown}
+use Rattle.ss_logic.specs.Frames.{NamedTerm, NamesField, NamesAll, NamesUpto, NamesElements, OwnerTerm, CallTerms, unless, iff, the_object, in_group_of, owned_by, is_free, is_outside, is_named, names_field, names_level, names_elements, all_named, field_kept, fields_kept, element_kept, object_kept, array_kept, kept, object_grown, grown}
+use Rattle.ss_logic.specs.Express.{and_of}
 use Rattle.ss_logic.specs.FrameMeans.{IsGrown, Each, thing_of, store_of, IsNamed, NamesNoField, NamesNoLevel, NamesNoElement, IsBound, IsKept}
 use Rattle.ss_logic.specs.Sorted.{is_object, is_name, AreSorted}
 use Rattle.ss_logic.proofs.Lifting.{True-lifted}

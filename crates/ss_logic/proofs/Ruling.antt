@@ -15,7 +15,8 @@ use Rattle.ss_logic.proofs.Numbered.{store_numbered}
 use Rattle.ss_logic.specs.declared.RuleName.{RuleName}
 use Rattle.ss_logic.specs.declared.RuleName.TheVariants as rule
 use Rattle.ss_logic.specs.Shapes.{when, number, null_term, class_term, owner_of, next_of, equal, differ, at_most, sub_atom, allocated, given, where_equal, literal_of, natural_of, class_of_term}
-use Rattle.ss_logic.specs.Rules.{next_is_new, new_is_grouped, group_is_new, store_before, fresh_of, class_fact, are_unrelated, stands_beside, is_class_term, class_pair, class_up, class_two, class_of, pairs_agree, split_of, apart_of, division, is_zero, divided, quorem_of, bool_of, numbered, instance_of}
+use Rattle.ss_logic.specs.Rules.{next_is_new, new_is_grouped, group_is_new, store_before, fresh_of, class_fact, are_unrelated, stands_beside, is_class_term, class_pair, class_up, class_two, class_of, pairs_agree, split_of, apart_of, division, divided, quorem_of, bool_of, numbered, instance_of}
+use Rattle.ss_store_rules.specs.Numbers.{is_zero}
 use Rattle.ss_logic.proofs.Sentences.{T, V, given_true, all_true, equal_values}
 use Rattle.ss_logic.proofs.Numbers.{three_ways_true, division_sum, rem_up, rem_down, rem_upper, rem_lower}
 use Rattle.ss_logic.proofs.Options.{mapped_some, if_some, and_then_some}

@@ -15,10 +15,10 @@ use Rattle.ss_logic.specs.Sums.{is_within, checked, plus_times, is_zero, LinearS
 use Rattle.ss_logic.specs.SumsMean.{number_of, parts_value, sum_value}
 use Rattle.ss_logic.proofs.NumbersInSums.{product_assoc, product_sum, times_zero, one_times, less_times, coefficient_more, sum_zero, zero_sum, first_more, rest_more, regroup, onto, zero_is, most_difference, more_difference, same_difference, zero_times, most_times, exact, floored, moved}
 
-checked_is : (n r : ℤ) → checked n ≡ Some r → n ≡ r
+pub checked_is : (n r : ℤ) → checked n ≡ Some r → n ≡ r
 checked_is n r h = (when_some (is_within n) n r h).1
 
-plus_times_is : (a n b r : ℤ) → plus_times a n b ≡ Some r → r ≡ a +ℤ (n *ℤ b)
+pub plus_times_is : (a n b r : ℤ) → plus_times a n b ≡ Some r → r ≡ a +ℤ (n *ℤ b)
 plus_times_is a n b r h =
     let p = and_then_some (λ c. checked (a +ℤ c)) (checked (n *ℤ b)) r h in
     sym (checked_is (a +ℤ p.0) r p.2) ∙ ap (λ x. a +ℤ x) (sym (checked_is (n *ℤ b) p.0 p.1))
@@ -27,7 +27,7 @@ not_so : (b : Bool) → (b ≡ true → ⊥) → b ≡ false
 not_so true h = absurd (h refl)
 not_so false h = refl
 
-some_is : {A : Type 0} (x y : A) → Some x ≡ Some y → x ≡ y
+pub some_is : {A : Type 0} (x y : A) → Some x ≡ Some y → x ≡ y
 some_is x y h = cc
 
 module _ (cs : List ClassTree) (m : Structure) where

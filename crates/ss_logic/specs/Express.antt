@@ -9,6 +9,7 @@ use Rattle.ss_core.specs.declared.expr.Quantifier.TheVariants as quantifier
 use Rattle.ss_core.specs.Tree.{ClassTree, WordTree, Consistent, Committed, New, Level, Packed, Unowned, OwnersTree, SameOwner, OwnedAt, DefaultTree, AtLevel, Unpacked, ThisUnowned, Defaults, OwnedFull, Full, ConsistentArgument, FullArgument, Captured, ExprTree, IntExpr, BoolExpr, NullExpr, LocalExpr, FieldExpr, ElementExpr, LengthExpr, NegateExpr, NotExpr, BinaryExpr, ImpliesExpr, IffExpr, IsExpr, AsExpr, CastExpr, OldExpr, QuantifiedExpr, StateExpr, OwnersExpr, DefaultExpr}
 use Rattle.ss_core.specs.Chain.{sub, levels, DeclaredField, all_fields}
 use Rattle.ss_store_rules.specs.Types.{is_bool, element_of, type_of}
+use Rattle.ss_store_rules.specs.Values.{subject}
 use Rattle.ss_logic.specs.declared.Sort.{Sort}
 use Rattle.ss_logic.specs.declared.Sort.TheVariants as sort
 use Rattle.ss_logic.specs.Terms.{Term, Bound, app, sort_of_type}
@@ -192,13 +193,6 @@ met_by c Full x = is_full c.now x
 met_by c (ConsistentArgument i) x = and_of (is_full c.now x ∷ neg (committed c.now x) ∷ [])
 met_by c (FullArgument i) x = is_full c.now x
 met_by c (Captured i apart) x = and_of (may_be_captured c apart x)
-
--- the local of which a condition speaks: `this`, or an argument
-abbrev pub subject : DefaultTree → ℕ
-subject (ConsistentArgument x) = x
-subject (FullArgument x) = x
-subject (Captured x apart) = x
-subject d = 0
 
 -- null meets each condition
 abbrev pub default_said : Context → DefaultTree → Formula

@@ -5,8 +5,9 @@ use Rattle.ss_core.specs.Chain.{sub, all_fields}
 use Rattle.ss_store_rules.specs.Changes.{field_class}
 use Rattle.ss_logic.specs.declared.Sort.TheVariants as sort
 use Rattle.ss_logic.specs.Terms.{Symbol, Field, Element, Term, Bound, App, Terms, no_terms, term_then, app}
-use Rattle.ss_logic.specs.Formulas.{Formula, Formulas, Literal, And, Or, Forall, Exists, no_formulas, formula_then, formulas_from, neg}
+use Rattle.ss_logic.specs.Formulas.{Formula, Formulas, Literal, And, Or, Forall, Exists, no_formulas, formula_then, neg}
 use Rattle.ss_logic.specs.Shapes.{class_term, level_of, owner_of, type_of, pair_of, equal, allocated, committed, ready, group}
+use Rattle.ss_logic.specs.Express.{and_of, or_of}
 
 -- What a body may change: a field of an object, all of an object, what its class and those above it declare, or the elements of an array;
 -- each where the formula is true.
@@ -56,12 +57,6 @@ abbrev mutual
   all_lifted n (formula_then f fs) = formula_then (lifted n f) (all_lifted n fs)
 
 -- ---- shapes
-
-abbrev pub and_of : List Formula → Formula
-and_of fs = And (formulas_from fs)
-
-abbrev pub or_of : List Formula → Formula
-or_of fs = Or (formulas_from fs)
 
 -- either of them, or the last; the last alone, where there is no other
 abbrev pub unless : List Formula → Formula → Formula

@@ -5,6 +5,7 @@ use Rattle.ss_core.specs.declared.names.Mark.TheVariants as mark
 use Rattle.ss_core.specs.declared.names.Ty.{Ty}
 use Rattle.ss_core.specs.declared.names.Ty.TheVariants as ty
 use Rattle.ss_core.specs.Tree.{ClassTree}
+use Rattle.ss_core.specs.Types.{is_class_type}
 use Rattle.ss_store_rules.specs.Changes.{field_class, field_mark, field_type}
 use Rattle.ss_logic.specs.declared.Sort.{Sort}
 use Rattle.ss_logic.specs.declared.Sort.TheVariants as sort
@@ -57,13 +58,9 @@ marked cs s o f mark.Plain = None
 marked cs s o f mark.Rep = Some (given (has_its_field cs s o f ++ differ (field_term s o f) null_term ∷ []) (equal (owner_of s (field_term s o f)) (pair_of o (class_term (field_class cs f)))))
 marked cs s o f mark.Peer = Some (given (has_its_field cs s o f ++ differ (field_term s o f) null_term ∷ []) (equal (owner_of s (field_term s o f)) (owner_of s o)))
 
-abbrev pub is_reference_type : Ty → Bool
-is_reference_type (ty.Ref t non_null) = true
-is_reference_type t = false
-
 abbrev pub marked_field : List ClassTree → Term → Term → Option ℕ → Option Formula
 marked_field cs s o (Some f) =
-    if has_field cs f && is_reference_type (field_type cs f) && have_sorts cs (sort.Rest ∷ []) (o ∷ []) then marked cs s o f (field_mark cs f) else None
+    if has_field cs f && is_class_type (field_type cs f) && have_sorts cs (sort.Rest ∷ []) (o ∷ []) then marked cs s o f (field_mark cs f) else None
 marked_field cs s o None = None
 
 abbrev pub marks_of : List ClassTree → Term → List Term → Option Formula

@@ -1,8 +1,9 @@
 -- The rules that are true in every structure, and their instances.
-use Rattle.std.specs.Prelude.{ℕ, ℤ, pos, negsuc, ◌-◌, neg_ℤ, List, [], ◌∷◌, Bool, true, false, ◌==◌, ◌&&◌, not, Option, Some, None, option_map, option_and_then, unsigned_abs, if◌then◌else◌}
+use Rattle.std.specs.Prelude.{ℕ, ℤ, pos, ◌-◌, neg_ℤ, List, [], ◌∷◌, Bool, true, false, ◌==◌, ◌&&◌, not, Option, Some, None, option_map, option_and_then, unsigned_abs, if◌then◌else◌}
 use Rattle.std.specs.List.{list_any}
 use Rattle.ss_core.specs.Tree.{ClassTree}
 use Rattle.ss_core.specs.Chain.{above, sub}
+use Rattle.ss_store_rules.specs.Numbers.{is_zero}
 use Rattle.ss_logic.specs.declared.Sort.TheVariants as sort
 use Rattle.ss_logic.specs.Terms.{Fixed, ClassName, Add, Multiply, Quotient, Remainder, TypeOf, Level, Pair, New, NewArray, Term, App, no_terms, term_then, app, have_sorts}
 use Rattle.ss_logic.specs.Formulas.{Formula, Or, formulas_from, neg}
@@ -127,10 +128,6 @@ division x d =
     ∷ at_most r (number most)
     ∷ at_most (number (neg_ℤ most)) r
     ∷ [])
-
-abbrev pub is_zero : ℤ → Bool
-is_zero (pos n) = n == 0
-is_zero (negsuc n) = false
 
 abbrev pub divided : Term → Option ℤ → Option Formula
 divided x (Some d) = when (not (is_zero d)) (division x d)

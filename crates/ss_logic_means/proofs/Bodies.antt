@@ -10,14 +10,14 @@ use Rattle.ss_store_rules.specs.declared.Value.TheVariants as value
 use Rattle.ss_store_rules.specs.Store.{Object}
 use Rattle.ss_store_rules.specs.Good.{has_type}
 use Rattle.ss_store_rules.specs.Locals.{local_types}
-use Rattle.ss_store_rules.specs.Values.{Setting}
+use Rattle.ss_store_rules.specs.Values.{Setting, subject}
 use Rattle.ss_store_rules.specs.Values as run
 use Rattle.ss_logic.specs.declared.Sort.TheVariants as sort
 use Rattle.ss_logic.specs.Values.{Heap, Table, IsNumbered, Value, whole, truth, thing, as_whole, as_truth, as_thing, sort_of_value, Structure}
 use Rattle.ss_logic.specs.Terms.{Term, sort_of_type, same_sort, have_sorts, constant_value}
 use Rattle.ss_logic.specs.Formulas.{is_well_formed, AreOf}
 use Rattle.ss_logic.proofs.Truth.{same_sort_refl}
-use Rattle.ss_logic.specs.Express.{choices, Context, local_meant, subject, holds_formula}
+use Rattle.ss_logic.specs.Express.{choices, Context, local_meant, holds_formula}
 use Rattle.ss_machine_typed.specs.Settings.{IsGoodSetting}
 use Rattle.ss_logic_means.specs.Means.{standing, Means}
 use Rattle.ss_logic_means.specs.Scenes.{setting_of, HaveValues, IsStoreTerm, Stands, Stay, is_stated, Settled}

@@ -6,7 +6,7 @@ use Rattle.std.proofs.lemmas.Option.{slice_get_within}
 use Rattle.ss_core.specs.declared.names.Ty.{Ty}
 use Rattle.ss_core.specs.declared.names.Ty.TheVariants as ty
 use Rattle.ss_core.specs.Tree.{ClassTree}
-use Rattle.ss_store_rules.specs.Types.{plain}
+use Rattle.ss_core.specs.Types.{nullable}
 use Rattle.ss_logic.specs.declared.Sort.{Sort}
 use Rattle.ss_logic.specs.declared.Sort.TheVariants as sort
 use Rattle.ss_logic.specs.Terms.{TypeOf, Level, Owner, Pair, Term, Bound, sort_of_type}
@@ -65,7 +65,7 @@ module _ (cs : List ClassTree) (bound : List Sort) where
 
 -- ---- contexts
 
-pub plain_sort : (t : Ty) → sort_of_type (plain t) ≡ sort_of_type t
+pub plain_sort : (t : Ty) → sort_of_type (nullable t) ≡ sort_of_type t
 plain_sort ty.Int = refl
 plain_sort ty.Bool = refl
 plain_sort ty.Null = refl
@@ -86,10 +86,10 @@ module _ (among : ℕ → Bool) (c : Context) (bound : List Sort) (st : IsSorted
   pub local_sorted : (x : ℕ) (t : Ty) → among x ≡ true → slice_get c.types x ≡ Some t → C c.classes bound (sort_of_type t) (local_meant c x)
   local_sorted x t asked is = subst (λ w. HaveSort c.classes w (sort_of_type t) (choices (local_meant c x))) (append-nil bound) (st.locals x t asked is [])
 
-  pub local_expressed : (x : ℕ) → among x ≡ true → is_some (option_map plain (slice_get c.types x)) ≡ true → C c.classes bound (element_sort (option_map plain (slice_get c.types x))) (local_meant c x)
+  pub local_expressed : (x : ℕ) → among x ≡ true → is_some (option_map nullable (slice_get c.types x)) ≡ true → C c.classes bound (element_sort (option_map nullable (slice_get c.types x))) (local_meant c x)
   local_expressed x asked h = typed (slice_get c.types x) refl h
     where
-      typed : (a : Option Ty) → slice_get c.types x ≡ a → is_some (option_map plain a) ≡ true → C c.classes bound (element_sort (option_map plain a)) (local_meant c x)
+      typed : (a : Option Ty) → slice_get c.types x ≡ a → is_some (option_map nullable a) ≡ true → C c.classes bound (element_sort (option_map nullable a)) (local_meant c x)
       typed None is h = absurd (false≢true h)
       typed (Some t) is h = subst (λ s. C c.classes bound s (local_meant c x)) (sym (plain_sort t)) (local_sorted x t asked is)
 

@@ -28,7 +28,8 @@ use Rattle.ss_logic.specs.Formulas.{Formula, Forall, neg}
 use Rattle.ss_logic.specs.Objects.{content, owner_of_thing, filled, object_in, objects_of}
 use Rattle.ss_logic.proofs.Tabled.{field_there}
 use Rattle.ss_logic.specs.Shapes.{null_term, class_term, level_of, owner_of, pair_of, equal, differ, allocated, committed, group}
-use Rattle.ss_logic.specs.Express.{and_of, or_of, choices, over, Context, local_meant, is_full, default_of_sort, defaults_from, owned_full, may_be_captured, met_by, subject, default_said}
+use Rattle.ss_logic.specs.Express.{and_of, or_of, choices, over, Context, local_meant, is_full, default_of_sort, defaults_from, owned_full, may_be_captured, met_by, default_said}
+use Rattle.ss_store_rules.specs.Values.{subject}
 use Rattle.ss_machine_typed.specs.Settings.{IsGoodSetting}
 use Rattle.ss_machine_typed.proofs.Sound.{class_of_type}
 use Rattle.ss_logic_means.specs.Means.{standing}

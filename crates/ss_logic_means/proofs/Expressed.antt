@@ -9,9 +9,10 @@ use Rattle.ss_core.specs.declared.expr.Quantifier.{Quantifier}
 use Rattle.ss_core.specs.declared.expr.Quantifier.TheVariants as quantifier
 use Rattle.ss_core.specs.Tree.{ClassTree, WordTree, Consistent, Committed, New, Level, Packed, Unowned, OwnersTree, SameOwner, OwnedAt, ExprTree, IntExpr, BoolExpr, NullExpr, LocalExpr, FieldExpr, ElementExpr, LengthExpr, NegateExpr, NotExpr, BinaryExpr, ImpliesExpr, IffExpr, IsExpr, AsExpr, CastExpr, OldExpr, QuantifiedExpr, StateExpr, OwnersExpr, DefaultExpr}
 use Rattle.ss_core.specs.Chain.{below, is_class, DeclaredField, all_fields}
+use Rattle.ss_core.specs.Types.{nullable}
 use Rattle.ss_store_rules.specs.Numbers.{fits}
 use Rattle.ss_store_rules.specs.Changes.{is_array, type_of_field}
-use Rattle.ss_store_rules.specs.Types.{plain, class_type, is_int, is_bool, is_reference, has_class, where_typed, field_read_type, is_word, is_owners_word, element_of, type_of}
+use Rattle.ss_store_rules.specs.Types.{class_type, is_int, is_bool, is_reference, has_class, where_typed, field_read_type, is_word, is_owners_word, element_of, type_of}
 use Rattle.ss_logic.specs.declared.Sort.{Sort}
 use Rattle.ss_logic.specs.declared.Sort.TheVariants as sort
 use Rattle.ss_logic.specs.Terms.{Add, Subtract, Field, Element, Length, Term, Bound, app, sort_of_type, field_sort, has_field, is_store_sort, takes}
@@ -93,7 +94,7 @@ element_no_store None = refl
 element_no_store (Some t) = ap not (type_sort t)
 
 field_result : (cs : List ClassTree) (a : Option Ty) (o : Option DeclaredField) (d : DeclaredField) → o ≡ Some d → has_class (λ u. below cs u d.class) a ≡ true → sort_of_type d.field.ty ≡ element_sort (field_read_type cs a o)
-field_result cs a o d is h = sym (ap (λ r. element_sort (field_read_type cs a r)) is ∙ where_sort (has_class (λ u. below cs u d.class) a) (plain d.field.ty) h ∙ plain_sort d.field.ty)
+field_result cs a o d is h = sym (ap (λ r. element_sort (field_read_type cs a r)) is ∙ where_sort (has_class (λ u. below cs u d.class) a) (nullable d.field.ty) h ∙ plain_sort d.field.ty)
 
 element_result : (b : Bool) (a : Option Ty) → b ≡ true → element_sort a ≡ element_sort (if b then a else None)
 element_result true a h = refl

@@ -7,6 +7,7 @@ use Rattle.ss_core.specs.declared.names.Mark.TheVariants as mark
 use Rattle.ss_core.specs.declared.names.Ty.{Ty}
 use Rattle.ss_core.specs.declared.names.Ty.TheVariants as ty
 use Rattle.ss_core.specs.Tree.{ClassTree}
+use Rattle.ss_core.specs.Types.{is_class_type}
 use Rattle.ss_store_rules.specs.Changes.{field_class, field_mark, field_type}
 use Rattle.ss_logic.specs.declared.Sort.{Sort}
 use Rattle.ss_logic.specs.declared.Sort.TheVariants as sort
@@ -17,7 +18,7 @@ use Rattle.ss_logic.specs.declared.GoodRule.{GoodRule}
 use Rattle.ss_logic.specs.declared.GoodRule.TheVariants as rule
 use Rattle.ss_logic.specs.Shapes.{number, null_term, class_term, level_of, owner_of, type_of, pair_of, equal, differ, at_most, sub_atom, allocated, committed, ready, group, given, all_of, natural_of, class_of_term}
 use Rattle.ss_logic.specs.Reads.{Look, FieldLook, ElementLook, LevelLook, OwnerLook, NextLook, AllocatedLook, CommittedLook, ReadyLook, LengthLook, is_look, look_from}
-use Rattle.ss_logic.specs.Good.{full_level, full_of, owned_committed, grouped_uncommitted, owned_by_number, owned_of, has_its_field, field_term, is_reference_type, marked, marked_field, marks_of, in_range, arrays_of_references, element_typed, typed_field, typed_element, level_typed, length_typed, typed_look, typed_read, level_at, typed_level, owner_allocated, is_number, typed_of, not_null, ready_field, ready_look, ready_read, ready_of}
+use Rattle.ss_logic.specs.Good.{full_level, full_of, owned_committed, grouped_uncommitted, owned_by_number, owned_of, has_its_field, field_term, marked, marked_field, marks_of, in_range, arrays_of_references, element_typed, typed_field, typed_element, level_typed, length_typed, typed_look, typed_read, level_at, typed_level, owner_allocated, is_number, typed_of, not_null, ready_field, ready_look, ready_read, ready_of}
 use Rattle.ss_logic.specs.GoodRules.{good_sentence, good_instance_of}
 use Rattle.ss_logic.proofs.Options.{if_some, and_then_some}
 use Rattle.ss_logic_means.proofs.Sorting.{sorted_one, equal_formed, more_formed}
@@ -27,7 +28,7 @@ use Rattle.ss_logic_means.proofs.Contexts.{class_sorted, type_sorted, pair_sorte
 use Rattle.ss_logic_means.proofs.Sentences.{none_some, F, All, S, sorted_from, rest_sorted, field_sorted, element_sorted, ready_formed, given_formed, all_of_formed, some_formed, when_formed}
 use Rattle.ss_logic_means.proofs.ReadingInstances.{IsRead, is_read}
 
-reference_sort : (y : Ty) → is_reference_type y ≡ true → sort_of_type y ≡ sort.Rest
+reference_sort : (y : Ty) → is_class_type y ≡ true → sort_of_type y ≡ sort.Rest
 reference_sort (ty.Ref t n) h = refl
 reference_sort ty.Int h = absurd (false≢true h)
 reference_sort ty.Bool h = absurd (false≢true h)
@@ -150,9 +151,9 @@ module _ (cs : List ClassTree) (s : Term) (store : S cs sort.Store s) where
   marked_field_formed : (o : Term) (j : Option ℕ) (g : Formula) → marked_field cs s o j ≡ Some g → F cs g
   marked_field_formed o None g e = none_some g e
   marked_field_formed o (Some f) g e =
-      let p = if_some (has_field cs f && is_reference_type (field_type cs f) && have_sorts cs (sort.Rest ∷ []) (o ∷ [])) (marked cs s o f (field_mark cs f)) g e in
-      let q = and_parts (has_field cs f && is_reference_type (field_type cs f)) (have_sorts cs (sort.Rest ∷ []) (o ∷ [])) p.0 in
-      let r = and_parts (has_field cs f) (is_reference_type (field_type cs f)) q.0 in
+      let p = if_some (has_field cs f && is_class_type (field_type cs f) && have_sorts cs (sort.Rest ∷ []) (o ∷ [])) (marked cs s o f (field_mark cs f)) g e in
+      let q = and_parts (has_field cs f && is_class_type (field_type cs f)) (have_sorts cs (sort.Rest ∷ []) (o ∷ [])) p.0 in
+      let r = and_parts (has_field cs f) (is_class_type (field_type cs f)) q.0 in
       let ho = rest_sorted cs o q.1 in
       let k = field_has o f r.0 ho (field_type cs f) refl in
       marked_formed o f r.0 ho (k.0 ∙ reference_sort (field_type cs f) r.1, k.1) (field_mark cs f) g p.1

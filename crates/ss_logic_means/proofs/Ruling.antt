@@ -10,7 +10,8 @@ use Rattle.ss_logic.specs.Formulas.{Formula, neg}
 use Rattle.ss_logic.specs.declared.RuleName.{RuleName}
 use Rattle.ss_logic.specs.declared.RuleName.TheVariants as rule
 use Rattle.ss_logic.specs.Shapes.{number, null_term, class_term, owner_of, next_of, equal, differ, at_most, sub_atom, allocated, group, given, where_equal, literal_of, natural_of, class_of_term}
-use Rattle.ss_logic.specs.Rules.{next_is_new, new_is_grouped, group_is_new, store_before, fresh_of, class_fact, class_above, class_apart, are_unrelated, is_class_term, class_pair, class_up, class_two, class_of, pairs_agree, split_of, three_ways, apart_of, division, is_zero, divided, quorem_of, two_valued, bool_of, numbered, instance_of}
+use Rattle.ss_logic.specs.Rules.{next_is_new, new_is_grouped, group_is_new, store_before, fresh_of, class_fact, class_above, class_apart, are_unrelated, is_class_term, class_pair, class_up, class_two, class_of, pairs_agree, split_of, three_ways, apart_of, division, divided, quorem_of, two_valued, bool_of, numbered, instance_of}
+use Rattle.ss_store_rules.specs.Numbers.{is_zero}
 use Rattle.ss_logic.proofs.Options.{mapped_some, if_some, and_then_some}
 use Rattle.ss_logic_means.proofs.Sorting.{sorted_two, equal_formed, all_formed}
 use Rattle.ss_logic_means.proofs.Forming.{negation}

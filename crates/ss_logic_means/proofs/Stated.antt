@@ -17,7 +17,8 @@ use Rattle.ss_logic.specs.Terms.{Field, Term, Bound, app, sort_of_type, same_sor
 use Rattle.ss_logic.specs.Formulas.{Formula, is_well_formed, neg}
 use Rattle.ss_logic.proofs.Truth.{equal_sorts}
 use Rattle.ss_logic.specs.Shapes.{null_term, class_term, level_of, owner_of, pair_of, equal, differ, sub_atom, allocated, committed, class_of_term}
-use Rattle.ss_logic.specs.Express.{and_of, or_of, One, choices, over, said, Context, meant_or_null, local_meant, is_full, default_of_sort, defaults_from, owned_full, may_be_captured, met_by, subject, default_said, meant, defined, holds_formula}
+use Rattle.ss_logic.specs.Express.{and_of, or_of, One, choices, over, said, Context, meant_or_null, local_meant, is_full, default_of_sort, defaults_from, owned_full, may_be_captured, met_by, default_said, meant, defined, holds_formula}
+use Rattle.ss_store_rules.specs.Values.{subject}
 use Rattle.ss_logic.specs.Invariants.{invariant_context, invariants_said, packed_invariants, invariants_at, invariants_of}
 use Rattle.ss_logic_means.specs.Scenes.{has_subject, has_no_default, speaks_of, speaks_only, is_stated, AreInvariants}
 use Rattle.ss_logic_means.specs.Sorts.{HasSort, AreWellFormed, HaveSort, IsWellExpressed, IsSorted, IsSortedAmong}

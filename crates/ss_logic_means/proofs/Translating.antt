@@ -7,11 +7,12 @@ use Rattle.ss_core.specs.declared.names.Ty.{Ty}
 use Rattle.ss_core.specs.declared.names.Ty.TheVariants as ty
 use Rattle.ss_core.specs.Tree.{ExprTree, IntExpr, BoolExpr, NullExpr, LocalExpr, FieldExpr, ElementExpr, LengthExpr, NegateExpr, NotExpr, BinaryExpr, ImpliesExpr, IffExpr, IsExpr, AsExpr, CastExpr, OldExpr, QuantifiedExpr, StateExpr, OwnersExpr, DefaultExpr}
 use Rattle.ss_core.specs.Chain.{below, is_class, all_fields}
+use Rattle.ss_core.specs.Types.{nullable}
 use Rattle.ss_store_rules.specs.declared.Value.{Value as ObjectValue}
 use Rattle.ss_store_rules.specs.declared.Value.TheVariants as value
 use Rattle.ss_store_rules.specs.Numbers.{fits}
 use Rattle.ss_store_rules.specs.Reads.{as_int}
-use Rattle.ss_store_rules.specs.Types.{plain, class_type, is_int, is_bool, is_reference, has_class, is_word, is_owners_word, element_of, type_of}
+use Rattle.ss_store_rules.specs.Types.{class_type, is_int, is_bool, is_reference, has_class, is_word, is_owners_word, element_of, type_of}
 use Rattle.ss_store_rules.specs.Changes.{is_array}
 use Rattle.ss_store_rules.specs.Good.{AreValues}
 use Rattle.ss_store_rules.specs.Values as run
@@ -63,11 +64,11 @@ module _ (among : ℕ → Bool) (m : Structure) (now entry : Heap) where
     still : (o : ℕ) → nat_lt o entry.next ≡ true → nat_lt o now.next ≡ true
     still = typed.still_allocated c.classes m.table now entry good.older
 
-    typed_local : (a : Option Ty) → is_some (option_map plain a) ≡ true → (t : Ty) × (a ≡ Some t)
+    typed_local : (a : Option Ty) → is_some (option_map nullable a) ≡ true → (t : Ty) × (a ≡ Some t)
     typed_local None h = absurd (false≢true h)
     typed_local (Some t) h = (t, refl)
 
-    local_reads : (x : ℕ) → among x ≡ true → is_some (option_map plain (slice_get c.types x)) ≡ true → R c.classes m e [] (local_meant c x) (Ok (run.local_value (setting_of m c now entry locals) x))
+    local_reads : (x : ℕ) → among x ≡ true → is_some (option_map nullable (slice_get c.types x)) ≡ true → R c.classes m e [] (local_meant c x) (Ok (run.local_value (setting_of m c now entry locals) x))
     local_reads x asked h =
         let t = typed_local (slice_get c.types x) h in
         let within = slice_get_within c.types x t.0 t.1 in

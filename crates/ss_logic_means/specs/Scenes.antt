@@ -5,7 +5,7 @@ use Rattle.ss_core.specs.declared.names.Ty.{Ty}
 use Rattle.ss_core.specs.Tree.{ClassTree, DefaultTree, Defaults, Captured, ExprTree, DefaultExpr}
 use Rattle.ss_core.specs.Chain.{below}
 use Rattle.ss_store_rules.specs.declared.Value.{Value as ObjectValue}
-use Rattle.ss_store_rules.specs.Values.{Setting}
+use Rattle.ss_store_rules.specs.Values.{Setting, subject}
 use Rattle.ss_store_rules.specs.Locals.{everywhere, is_default, reads_only}
 use Rattle.ss_store_rules.specs.Types.{is_bool, is_reference, has_class, type_of}
 use Rattle.ss_store_rules.specs.Typed.{is_invariant}
@@ -13,7 +13,7 @@ use Rattle.ss_store_rules.specs.Admissible.{invariants, AreAdmissible}
 use Rattle.ss_logic.specs.Values.{Heap, Value, store, Structure}
 use Rattle.ss_logic.specs.Terms.{Term, is_well_sorted, value_of}
 use Rattle.ss_logic.specs.Objects.{objects_of}
-use Rattle.ss_logic.specs.Express.{Choice, choices, Context, local_meant, subject}
+use Rattle.ss_logic.specs.Express.{Choice, choices, Context, local_meant}
 use Rattle.ss_logic_means.specs.Means.{standing, Denotes}
 
 -- the setting of a run whose stores now and at the entry are those that these of the structure table

@@ -7,9 +7,10 @@ use Rattle.ss_core.specs.declared.names.Ty.{Ty}
 use Rattle.ss_core.specs.declared.names.Ty.TheVariants as ty
 use Rattle.ss_core.specs.Tree.{ClassTree, ExprTree, IntExpr, BoolExpr, NullExpr, LocalExpr, FieldExpr, ElementExpr, LengthExpr, NegateExpr, NotExpr, BinaryExpr, ImpliesExpr, IffExpr, IsExpr, AsExpr, CastExpr, OldExpr, QuantifiedExpr, StateExpr, OwnersExpr, DefaultExpr, NamedTree, FieldOf, AllOf, ElementsOf, UptoOf, BodyTree, CoreTree}
 use Rattle.ss_core.specs.Chain.{below, DeclaredField, all_fields}
+use Rattle.ss_core.specs.Types.{nullable}
 use Rattle.ss_store_rules.specs.Changes.{is_array}
 use Rattle.ss_store_rules.specs.Locals.{local_types, is_argument, is_bound, reads_only, everywhere}
-use Rattle.ss_store_rules.specs.Types.{plain, has_class, is_reference, field_read_type, type_of, in_code, is_allowed, code_type}
+use Rattle.ss_store_rules.specs.Types.{has_class, is_reference, field_read_type, type_of, in_code, is_allowed, code_type}
 use Rattle.ss_store_rules.specs.Admissible.{is_this}
 use Rattle.ss_store_rules.specs.Typed.{is_named}
 use Rattle.ss_store_rules.specs.Formed.{IsFormedBody}
@@ -29,7 +30,7 @@ field_reference : (cs : List ClassTree) (a : Option Ty) (d : Option DeclaredFiel
 field_reference cs a None h = absurd (false≢true h)
 field_reference cs a (Some d) h = class_reference (λ c. below cs c d.class) a (typed (has_class (λ c. below cs c d.class) a) h)
   where
-    typed : (c : Bool) → is_some (if c then Some (plain d.field.ty) else None) ≡ true → c ≡ true
+    typed : (c : Bool) → is_some (if c then Some (nullable d.field.ty) else None) ≡ true → c ≡ true
     typed true h = refl
     typed false h = absurd (false≢true h)
 
@@ -49,12 +50,12 @@ module _ (cs : List ClassTree) (b : BodyTree) where
       chosen false h = absurd (false≢true h)
 
   -- the type of a `this`
-  first_type : (static : Bool) (t : ℕ) (xs ys zs : List Ty) → static ≡ false → is_reference (option_map plain (slice_get ((((if static then [] else ty.Ref (record { 0 = t }) true ∷ []) ++ xs) ++ ys) ++ zs) 0)) ≡ true
+  first_type : (static : Bool) (t : ℕ) (xs ys zs : List Ty) → static ≡ false → is_reference (option_map nullable (slice_get ((((if static then [] else ty.Ref (record { 0 = t }) true ∷ []) ++ xs) ++ ys) ++ zs) 0)) ≡ true
   first_type true t xs ys zs h = absurd (true≢false h)
   first_type false t xs ys zs h = refl
 
   this_reference : (x : ExprTree) → is_this x ≡ true → not b.flags.is_static ≡ true → (has_no_default x && is_reference (type_of cs (local_types b) x)) ≡ true
-  this_reference (LocalExpr p x) h s = subst (λ k. is_reference (option_map plain (slice_get (local_types b) k)) ≡ true) (sym (eqb-true x 0 h)) (first_type b.flags.is_static b.class _ _ _ (off b.flags.is_static s))
+  this_reference (LocalExpr p x) h s = subst (λ k. is_reference (option_map nullable (slice_get (local_types b) k)) ≡ true) (sym (eqb-true x 0 h)) (first_type b.flags.is_static b.class _ _ _ (off b.flags.is_static s))
     where
       off : (c : Bool) → not c ≡ true → c ≡ false
       off true h = absurd (false≢true h)

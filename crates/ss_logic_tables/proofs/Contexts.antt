@@ -14,7 +14,8 @@ use Rattle.ss_logic.specs.Values.{Structure}
 use Rattle.ss_logic.specs.Terms.{Term, sort_of_type, same_sort, sort_of, is_well_sorted, have_sorts, value_of}
 use Rattle.ss_logic.specs.Formulas.{is_well_formed}
 use Rattle.ss_logic.proofs.Truth.{closed_value, equal_sorts}
-use Rattle.ss_logic.specs.Express.{Meant, One, Either, Says, choices, Context, meant_or_null, subject, holds_formula}
+use Rattle.ss_logic.specs.Express.{Meant, One, Either, Says, choices, Context, meant_or_null, holds_formula}
+use Rattle.ss_store_rules.specs.Values.{subject}
 use Rattle.ss_logic_means.specs.Means.{standing, Means}
 use Rattle.ss_logic_means.specs.Scenes.{setting_of, Stands, HaveValues, Stay, is_stated, Settled}
 use Rattle.ss_logic_means.specs.Sorts.{HasSort, IsSorted}

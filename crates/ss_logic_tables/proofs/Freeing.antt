@@ -8,6 +8,7 @@ use Rattle.ss_core.specs.declared.names.Ty.TheVariants as ty
 use Rattle.ss_core.specs.Tree.{ClassTree, LocalTree, BodyTree}
 use Rattle.ss_core.specs.Chain.{levels, sub, below, is_type, NoAlso}
 use Rattle.ss_core.proofs.Chains.{sub-below}
+use Rattle.ss_core.specs.Types.{is_class_type}
 use Rattle.ss_store_rules.specs.declared.Value.{Value as ObjectValue}
 use Rattle.ss_store_rules.specs.declared.Value.TheVariants as value
 use Rattle.ss_store_rules.specs.declared.Owner.{Owner}
@@ -18,7 +19,7 @@ use Rattle.ss_store_rules.specs.Reads.{is_object_with, same_owner, is_pair, is_p
 use Rattle.ss_store_rules.specs.Changes.{owned_by}
 use Rattle.ss_store_rules.specs.Good.{has_type}
 use Rattle.ss_store_rules.specs.Locals.{types_of, argument_types}
-use Rattle.ss_store_rules.specs.Typed.{is_class_type, is_local}
+use Rattle.ss_store_rules.specs.Typed.{is_local}
 use Rattle.ss_machine_rules.specs.Frame as frame
 use Rattle.ss_machine_rules.specs.Frame.{Span, captured_among, captured_values, is_in_group_with, local_at, this_of, is_owned_by_new, refers_to, is_outside}
 use Rattle.ss_logic.specs.declared.Sort.TheVariants as sort

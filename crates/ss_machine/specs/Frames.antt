@@ -1,9 +1,7 @@
 -- The frames that the code's stack and its stores stand for.
 use Rattle.std.specs.Prelude.{◌≡◌, List, [], ◌∷◌, ◌++◌, reverse, Option, Some, None}
-use Rattle.ss_core.specs.declared.stmt.Loop.{Loop}
-use Rattle.ss_core.specs.declared.stmt.Stmt.TheFolds.{fold-Loop}
-use Rattle.ss_core.specs.Tree.{StmtTree}
-use Rattle.ss_core.specs.View.{expr, stmt_of, block, body, stmt_step, loop_step}
+use Rattle.ss_core.specs.View.{expr, stmt_of, block, body}
+pub use Rattle.ss_core.specs.Parts.{loop_of}
 use Rattle.ss_store_rules.specs.Store.{Object}
 use Rattle.ss_machine_rules.specs.States as states
 use Rattle.ss_machine_rules.specs.States.{Due, Statement, Test, dues}
@@ -16,9 +14,6 @@ use Rattle.ss_machine.specs.declared.frame.Target.{Target}
 use Rattle.ss_machine.specs.declared.frame.Target.TheVariants as target
 use Rattle.ss_machine.specs.declared.frame.Frame.{Frame}
 use Rattle.ss_machine.specs.declared.machine.Machine.{Machine}
-
-abbrev pub loop_of : Loop → StmtTree
-loop_of = fold-Loop StmtTree StmtTree stmt_step loop_step
 
 -- what stands behind a block: statements, the test of a loop, or a loop
 abbrev pub dues_behind : Behind → List Due

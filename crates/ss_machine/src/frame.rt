@@ -25,8 +25,8 @@ pub enum Target {
     New(Option<usize>),
 }
 
-// A body that runs: its locals, the statements that are left of the innermost block, what stands behind that block and the blocks
-// around it, the innermost last, and where it returns to.
+// A body that runs: its locals, the statements that are left of the innermost block, and where it returns to. Behind these statements
+// comes what is due later, the last of it first.
 #[derive(Drop)]
 pub struct Frame<'a> {
     pub body: &'a Body,

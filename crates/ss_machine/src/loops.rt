@@ -12,8 +12,9 @@ ghost use Rattle.ss_machine.specs.Moves.{Does, doing};
 use crate::frame::Behind;
 use crate::halt::{Halt, ensure};
 use crate::machine::Machine;
-use crate::values::{as_bool, is_same, local};
+use crate::values::local;
 use ss_core::{ClassId, Core, Exposed, Expr, Kind, Loop, Place, Stmt};
+use ss_store::{as_bool, same_value};
 use ss_store_rules::Value;
 use std::alloc::Global;
 
@@ -54,7 +55,7 @@ impl<'a> Machine<'a> {
         ensures { result ≡ list_any (λ y. same_value (steps.held_by (running self.now) y) object) (map view.exposed_tree exposes.now) }
     {
         for x in exposes {
-            if is_same(local(&self.top.locals, x.local), object) {
+            if same_value(local(&self.top.locals, x.local), object) {
                 return true;
             }
         }

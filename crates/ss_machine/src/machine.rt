@@ -11,9 +11,9 @@ ghost use Rattle.ss_machine.specs.Moves.{here, IsValue, AreValues, ArePushed, Fa
 
 use crate::frame::{Behind, Frame};
 use crate::halt::Halt;
-use crate::values::as_bool;
 use ss_core::{Core, Expr, Place, Stmt};
 use ss_machine_stores::{ChangeStop, Stores};
+use ss_store::as_bool;
 use ss_store_rules::{Undefined, Value};
 use std::alloc::Global;
 

@@ -82,13 +82,13 @@ fn end_of(halt: Halt, steps: u64) -> CheckedEnd
     }
 }
 
-/// Runs a program on an input for at most this many steps, with all its checks, and writes each piece that it prints in one write.
+/// Runs a program on an input for at most this many steps, with all its checks. Each piece that it prints is one write.
 ///
 /// `Done`, `Failed`, `Stopped` and `Running` say what the run is after these steps, and the sink took all that it printed. `WriteFault`
 /// comes where a write failed, and `Memory` where there was no memory; the sink then took a front of what the run prints.
 /// What a step prints is one piece, which the sink takes whole in one write; an empty one is not written.
-/// Whatever the program does, each state of the run of a formed one is good until a check has failed: each object meets the invariants
-/// of each class at which it is packed (JOT 2004). In none of them does an expression of non-null type give null (OOPSLA 2003).
+/// Each state of the run of a formed program is good until a check has failed. In a good state each object meets the invariants of
+/// each class at which it is packed (JOT 2004). In no state of such a run does an expression of non-null type give null (OOPSLA 2003).
 pub fn run_checked<S: Sink>(
     alloc: Global,
     core: &Core,

@@ -1,42 +1,9 @@
 // Values, as the checks read them.
 ghost use Rattle.std.specs.Prelude.{◌≡◌, slice_set};
-ghost use Rattle.ss_store_rules.specs.Reads as reads;
 ghost use Rattle.ss_machine_rules.specs.Frame as frame;
 ghost use Rattle.ss_machine_rules.specs.States as states;
 
 use ss_store_rules::Value;
-
-// A value that is no number counts as 0.
-pub fn as_int(value: Value) -> i32
-    ensures { result ≡ reads.as_int value }
-{
-    match value {
-        Value::Int(n) => n,
-        _ => 0,
-    }
-}
-
-// A value that is no truth value counts as false.
-pub fn as_bool(value: Value) -> bool
-    ensures { result ≡ reads.as_bool value }
-{
-    match value {
-        Value::Bool(b) => b,
-        _ => false,
-    }
-}
-
-pub fn is_same(left: Value, right: Value) -> bool
-    ensures { result ≡ reads.same_value left right }
-{
-    match (left, right) {
-        (Value::Int(m), Value::Int(n)) => m == n,
-        (Value::Bool(a), Value::Bool(b)) => a == b,
-        (Value::Obj(o), Value::Obj(q)) => o == q,
-        (Value::Null, Value::Null) => true,
-        _ => false,
-    }
-}
 
 // The value of a local; one that is missing reads as null.
 pub fn local(locals: &[Value], x: usize) -> Value

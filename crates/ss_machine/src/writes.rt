@@ -7,9 +7,9 @@ ghost use Rattle.ss_machine.specs.Moves.{Does, doing};
 
 use crate::halt::Halt;
 use crate::machine::{Machine, or_fails};
-use crate::values::{as_int, local, put, set_local, this};
+use crate::values::{local, put, set_local, this};
 use ss_core::{ClassId, Core, Expr, FieldId, Kind, Mark, Place};
-use ss_store::NewStop;
+use ss_store::{NewStop, as_int};
 use ss_store_rules::Value;
 
 impl<'a> Machine<'a> {

@@ -1,4 +1,4 @@
--- So it is of the fields of `this` in the frames of constructors.
+-- What is known of the fields of `this` along the code of a constructor is so in each of its frames.
 use Rattle.std.proofs.Common.{◌≡◌, ◌≤◌, ℕ, List, [], ◌∷◌, Bool, true, false, not, ◌==◌, ◌&&◌, ◌||◌, Option, Some, None, Ok, Err, eqb, refl, sym, ◌∙◌, ap, subst, arith, inl, inr, ◌⊎◌, ⊎_elim}
 use Rattle.std.specs.Prelude.{slice_get, if◌then◌else◌, is_some, Result}
 use Rattle.std.proofs.lemmas.Bool.{false≢true, true≢false, and_parts, or_cases, cases_Bool, eq-eqb, eqb-true}

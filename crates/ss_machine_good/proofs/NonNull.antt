@@ -10,6 +10,7 @@ use Rattle.ss_core.specs.declared.names.Ty.TheVariants as ty
 use Rattle.ss_core.specs.Tree.{ExprTree, IntExpr, BoolExpr, NullExpr, LocalExpr, FieldExpr, ElementExpr, LengthExpr, NegateExpr, NotExpr, BinaryExpr, ImpliesExpr, IffExpr, IsExpr, AsExpr, CastExpr, OldExpr, QuantifiedExpr, StateExpr, OwnersExpr, DefaultExpr, BodyTree}
 use Rattle.ss_core.specs.Chain.{sub, below, DeclaredField, all_fields}
 use Rattle.ss_core.proofs.Chains.{sub-below, below_trans}
+use Rattle.ss_core.specs.Types.{nullable}
 use Rattle.ss_store_rules.specs.declared.Value.{Value}
 use Rattle.ss_store_rules.specs.declared.Value.TheVariants as value
 use Rattle.ss_store_rules.specs.Store.{Object}
@@ -18,7 +19,7 @@ use Rattle.ss_store_rules.specs.Numbers.{undefined}
 use Rattle.ss_store_rules.specs.Reads.{no_object, object_at, is_allocated, field_read}
 use Rattle.ss_store_rules.specs.Values.{Setting, local_value, at_entry, class_at, state_at, is_readable, readable_of, field_value, is_of, cast, value_of}
 use Rattle.ss_store_rules.specs.Changes.{field_type}
-use Rattle.ss_store_rules.specs.Types.{is_reference, has_class, field_read_type, type_of, plain}
+use Rattle.ss_store_rules.specs.Types.{is_reference, has_class, field_read_type, type_of}
 use Rattle.ss_store_rules.specs.Locals.{local_types, is_bound}
 use Rattle.ss_store_rules.specs.Assigned.{reads_assigned}
 use Rattle.ss_store_rules.specs.NonNull.{Known, is_non_null_type, is_this_object, is_never_null}
@@ -85,7 +86,7 @@ this_value (DefaultExpr p d) c v h e = absurd (false≢true h)
 -- the static type of what a field is read from
 read_from : (c : Setting) (a : Option Ty) (d : Option DeclaredField) (t : Ty) → field_read_type c.classes a d ≡ Some t → (g : DeclaredField) × (d ≡ Some g) × (has_class (λ u. below c.classes u g.class) a ≡ true)
 read_from c a None t h = absurd (let none : ⊥ = cc in none)
-read_from c a (Some g) t h = (g, refl, (where_typed_some (has_class (λ u. below c.classes u g.class) a) (plain g.field.ty) t h).0)
+read_from c a (Some g) t h = (g, refl, (where_typed_some (has_class (λ u. below c.classes u g.class) a) (nullable g.field.ty) t h).0)
 
 module _ (c : Setting) (tys : List Ty) (constructs : Bool) (good : IsGoodSetting c tys constructs) where
   -- A read field isn't null, where no non-null field of the object is.

@@ -10,6 +10,7 @@ use Rattle.ss_core.specs.declared.expr.Operator.{Operator}
 use Rattle.ss_core.specs.declared.expr.Operator.TheVariants as op
 use Rattle.ss_core.specs.Tree.{ClassTree, ExprTree, IntExpr, BoolExpr, NullExpr, LocalExpr, FieldExpr, ElementExpr, LengthExpr, NegateExpr, NotExpr, BinaryExpr, ImpliesExpr, IffExpr, IsExpr, AsExpr, CastExpr, OldExpr, QuantifiedExpr, StateExpr, OwnersExpr, DefaultExpr}
 use Rattle.ss_core.specs.Chain.{sub, is_class, DeclaredField, all_fields}
+use Rattle.ss_core.specs.Types.{is_class_type}
 use Rattle.ss_store_rules.specs.declared.Value.{Value}
 use Rattle.ss_store_rules.specs.declared.Value.TheVariants as value
 use Rattle.ss_store_rules.specs.Store.{Object}
@@ -19,7 +20,6 @@ use Rattle.ss_store_rules.specs.Reads.{as_int, field_read, element_read}
 use Rattle.ss_store_rules.specs.Values.{Setting, and_then, local_value, at_entry, class_at, state_at, is_readable, readable_of, field_value, is_index, index, element_value, is_of, cast, value_of}
 use Rattle.ss_store_rules.specs.Changes.{element_type, field_type}
 use Rattle.ss_store_rules.specs.Types.{class_type, is_int, is_reference, operation_type, field_read_type, element_of, type_of}
-use Rattle.ss_store_rules.specs.Typed.{is_class_type}
 use Rattle.ss_store_rules.specs.NonNull.{is_this_object}
 use Rattle.ss_store_rules.specs.Good.{has_type, IsReady}
 use Rattle.ss_machine_typed.specs.Settings.{IsGoodSetting}

@@ -13,6 +13,7 @@ use Rattle.ss_core.specs.declared.expr.Operator.TheVariants as op
 use Rattle.ss_core.specs.Tree.{ClassTree, ExprTree, IntExpr, BoolExpr, NullExpr, LocalExpr, FieldExpr, ElementExpr, LengthExpr, NegateExpr, NotExpr, BinaryExpr, ImpliesExpr, IffExpr, IsExpr, AsExpr, CastExpr, OldExpr, QuantifiedExpr, StateExpr, OwnersExpr, DefaultExpr}
 use Rattle.ss_core.specs.Chain.{sub, below, is_class, DeclaredField, all_fields}
 use Rattle.ss_core.proofs.Chains.{sub-below, below_trans}
+use Rattle.ss_core.specs.Types.{nullable}
 use Rattle.ss_store_rules.specs.declared.Value.{Value}
 use Rattle.ss_store_rules.specs.declared.Value.TheVariants as value
 use Rattle.ss_store_rules.specs.Store.{Object}
@@ -20,7 +21,7 @@ use Rattle.ss_store_rules.specs.Numbers.{Outcome, undefined, fits, is_zero, whol
 use Rattle.ss_store_rules.specs.Reads.{as_int, as_bool, no_object, is_allocated, field_read, element_read}
 use Rattle.ss_store_rules.specs.Values.{Setting, and_then, truth, local_value, at_entry, with_bound, object_of, class_at, length_at, state_at, is_readable, readable_of, field_value, is_index, index, element_value, length_value, is_of, cast, decides, applied, operation, word_object, default_holds, value_of}
 use Rattle.ss_store_rules.specs.Changes.{is_array, element_type, type_of_field, field_type}
-use Rattle.ss_store_rules.specs.Types.{plain, class_type, is_int, is_reference, has_class, where_typed, field_read_type, element_of, operation_type, type_of}
+use Rattle.ss_store_rules.specs.Types.{class_type, is_int, is_reference, has_class, where_typed, field_read_type, element_of, operation_type, type_of}
 use Rattle.ss_store_rules.specs.Good.{is_of_class, has_type, AreValues}
 use Rattle.ss_store_rules.proofs.Objects.{same_object}
 use Rattle.ss_machine_typed.specs.Older.{IsOlder}
@@ -32,7 +33,7 @@ use Rattle.ss_machine_typed.proofs.Outcomes.{and_then_ok, object_ok, ok_same, if
 -- ---- types
 
 -- null isn't asked here
-pub plain_typed : (cs : List ClassTree) (s : List Object) (t : Ty) (v : Value) → has_type cs s (plain t) v ≡ has_type cs s t v
+pub plain_typed : (cs : List ClassTree) (s : List Object) (t : Ty) (v : Value) → has_type cs s (nullable t) v ≡ has_type cs s t v
 plain_typed cs s ty.Int v = refl
 plain_typed cs s ty.Bool v = refl
 plain_typed cs s ty.Null v = refl
@@ -126,7 +127,7 @@ module _ (c : Setting) (tys : List Ty) (k : Bool) (good : IsGoodSetting c tys k)
   -- ---- fields
 
   field_sound : (p : Place) (v w : Value) (t : ℕ) (n : Bool) (f : ℕ) (d : DeclaredField) → has_type c.classes c.store (ty.Ref (record { 0 = t }) n) v ≡ true → slice_get (all_fields c.classes) f ≡ Some d →
-      below c.classes t d.class ≡ true → field_value c p v f ≡ Ok w → has_type c.classes c.store (plain d.field.ty) w ≡ true
+      below c.classes t d.class ≡ true → field_value c p v f ≡ Ok w → has_type c.classes c.store (nullable d.field.ty) w ≡ true
   field_sound p v w t n f d typed there b h =
       let a = and_then_ok (readable_of c p v) (λ o. Ok (field_read (state_at c o) f)) w h in
       let o = a.0 in
@@ -147,7 +148,7 @@ module _ (c : Setting) (tys : List Ty) (k : Bool) (good : IsGoodSetting c tys k)
       ((u : Ty) → a ≡ Some u → has_type c.classes c.store u v ≡ true) → field_value c p v f ≡ Ok w → has_type c.classes c.store t w ≡ true
   field_read_sound p v w a f None there t is typed h = absurd (let no : ⊥ = cc in no)
   field_read_sound p v w a f (Some d) there t is typed h =
-      let b = where_typed_some (has_class (λ u. below c.classes u d.class) a) (plain d.field.ty) t is in
+      let b = where_typed_some (has_class (λ u. below c.classes u d.class) a) (nullable d.field.ty) t is in
       let r = class_of_type (λ u. below c.classes u d.class) a b.0 in
       subst (λ u. has_type c.classes c.store u w ≡ true) b.1 (field_sound p v w r.0 r.1 f d (typed _ r.2) there r.3 h)
 
@@ -222,13 +223,13 @@ module _ (c : Setting) (tys : List Ty) (k : Bool) (good : IsGoodSetting c tys k)
 
   -- ---- locals
 
-  pub local_sound : (x : ℕ) (o : Option Ty) → slice_get tys x ≡ o → (t : Ty) → option_map plain o ≡ Some t → has_type c.classes c.store t (local_value c x) ≡ true
+  pub local_sound : (x : ℕ) (o : Option Ty) → slice_get tys x ≡ o → (t : Ty) → option_map nullable o ≡ Some t → has_type c.classes c.store t (local_value c x) ≡ true
   local_sound x None e t h = absurd (let no : ⊥ = cc in no)
   local_sound x (Some u) e t h =
       let within = slice_get_within tys x u e in
       let count = good.count in
       let v = there_is c.locals x (omega (arith, within, count)) in
-      let same : plain u ≡ t = cc in
+      let same : nullable u ≡ t = cc in
       subst (λ y. has_type c.classes c.store y (local_value c x) ≡ true) same
       (rw v.1 (plain_typed c.classes c.store u v.0 ∙ good.types x u v.0 e v.1))
 

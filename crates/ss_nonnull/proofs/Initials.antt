@@ -7,12 +7,13 @@ use Rattle.ss_faults.specs.declared.Fault.{Fault}
 use Rattle.ss_core.specs.declared.names.Ty.{Ty}
 use Rattle.ss_core.specs.Tree as core
 use Rattle.ss_core.specs.Kinds.{class_number}
+use Rattle.ss_core.specs.Chain.{fields_of}
 use Rattle.ss_typed.specs.declared.program.TypedField.{TypedField}
 use Rattle.ss_typed.specs.declared.program.TypedClass.{TypedClass}
 use Rattle.ss_typed.specs.Tree.{FieldTree, MembersTree, TypedTree}
 use Rattle.ss_typed.specs.View.{field, members}
 use Rattle.ss_paths.specs.Sets.{Set, none, put}
-use Rattle.ss_paths.specs.Fields.{field_count, fields_in, own_fields, written_fields, fields_of_members}
+use Rattle.ss_paths.specs.Fields.{field_count, own_fields, written_fields, fields_of_members}
 use Rattle.ss_typed.specs.Lookups.{class_place}
 use Rattle.ss_paths.specs.Assigned.{starts_with_value, has_initializer}
 use Rattle.ss_nonnull_rules.specs.NonNull.{NullContext, Known}
@@ -134,7 +135,7 @@ class_is : (p : TypedTree) (k : ℕ) (c : MembersTree) → slice_get p.members k
 class_is p k c here =
     let t = class_number k in
     let fields_are : written_fields p t ≡ c.fields = ap (λ (n : ℕ). fields_of_members (slice_get p.members n)) (place_of_number k) ∙ ap fields_of_members here in
-    ap (λ (n : ℕ). each_initial (context_with p t (record { first = sum_by field_count (take n p.classes); count = length (fields_in (slice_get p.classes n)) })) c.fields 0 c.fields (fields_in (slice_get p.classes n))) (sym (place_of_number k))
+    ap (λ (n : ℕ). each_initial (context_with p t (record { first = sum_by field_count (take n p.classes); count = length (fields_of (slice_get p.classes n)) })) c.fields 0 c.fields (fields_of (slice_get p.classes n))) (sym (place_of_number k))
     ∙ ap (λ (fs : List FieldTree). each_initial (initializer_context p t) fs 0 c.fields (own_fields p t)) (sym fields_are)
     ∙ each_is p t 0 c.fields (own_fields p t)
 
@@ -164,26 +165,26 @@ all_classes p list i f total l h =
     sym (append-nil f) ∙ ap (λ (xs : List TypedClass). f ++ classes_faults p i (map members xs)) (sym (drop_all i list l)) ∙ h
 
 pub class_noted : (p : TypedTree) (k first n count : ℕ) (s : NullContext) (fs us : List FieldTree) (o : Option core.ClassTree) (f0 f1 : List Fault)
-    → o ≡ slice_get p.classes k → count ≡ length (fields_in o) → n ≡ class_number k → s ≡ context_with p n (record { first = first; count = count }) → us ≡ fs
-    → f1 ≡ f0 ++ each_initial s us 0 us (fields_in o) → f1 ≡ f0 ++ class_faults p k first fs
+    → o ≡ slice_get p.classes k → count ≡ length (fields_of o) → n ≡ class_number k → s ≡ context_with p n (record { first = first; count = count }) → us ≡ fs
+    → f1 ≡ f0 ++ each_initial s us 0 us (fields_of o) → f1 ≡ f0 ++ class_faults p k first fs
 class_noted p k first n count s fs us o f0 f1 o_is count_is n_is s_is us_is q =
     q
-    ∙ ap (λ (t : NullContext). f0 ++ each_initial t us 0 us (fields_in o)) s_is
-    ∙ ap (λ (m : ℕ). f0 ++ each_initial (context_with p m (record { first = first; count = count })) us 0 us (fields_in o)) n_is
-    ∙ ap (λ (c : ℕ). f0 ++ each_initial (context_with p (class_number k) (record { first = first; count = c })) us 0 us (fields_in o)) count_is
-    ∙ ap (λ (x : Option core.ClassTree). f0 ++ each_initial (context_with p (class_number k) (record { first = first; count = length (fields_in x) })) us 0 us (fields_in x)) o_is
+    ∙ ap (λ (t : NullContext). f0 ++ each_initial t us 0 us (fields_of o)) s_is
+    ∙ ap (λ (m : ℕ). f0 ++ each_initial (context_with p m (record { first = first; count = count })) us 0 us (fields_of o)) n_is
+    ∙ ap (λ (c : ℕ). f0 ++ each_initial (context_with p (class_number k) (record { first = first; count = c })) us 0 us (fields_of o)) count_is
+    ∙ ap (λ (x : Option core.ClassTree). f0 ++ each_initial (context_with p (class_number k) (record { first = first; count = length (fields_of x) })) us 0 us (fields_of x)) o_is
     ∙ ap (λ (gs : List FieldTree). f0 ++ class_faults p k first gs) us_is
 
 -- the fields before the next class
-pub next_first : (cs : List core.ClassTree) (i : ℕ) → sum_by field_count (take i cs) + length (fields_in (slice_get cs i)) ≡ sum_by field_count (take (i + 1) cs)
+pub next_first : (cs : List core.ClassTree) (i : ℕ) → sum_by field_count (take i cs) + length (fields_of (slice_get cs i)) ≡ sum_by field_count (take (i + 1) cs)
 next_first cs i = at cs i ∙ ap (λ (n : ℕ). sum_by field_count (take n cs)) (sym (add-one i))
   where
-    at : (cs : List core.ClassTree) (i : ℕ) → sum_by field_count (take i cs) + length (fields_in (slice_get cs i)) ≡ sum_by field_count (take (suc i) cs)
+    at : (cs : List core.ClassTree) (i : ℕ) → sum_by field_count (take i cs) + length (fields_of (slice_get cs i)) ≡ sum_by field_count (take (suc i) cs)
     at [] zero = refl
     at [] (suc i) = refl
     at (c ∷ cs) zero = refl
     at (c ∷ cs) (suc i) =
-        ap (λ (n : ℕ). n + length (fields_in (slice_get cs i))) (sum_by-cons field_count c (take i cs))
-        ∙ add_assoc (field_count c) (sum_by field_count (take i cs)) (length (fields_in (slice_get cs i)))
+        ap (λ (n : ℕ). n + length (fields_of (slice_get cs i))) (sum_by-cons field_count c (take i cs))
+        ∙ add_assoc (field_count c) (sum_by field_count (take i cs)) (length (fields_of (slice_get cs i)))
         ∙ ap (λ (n : ℕ). field_count c + n) (at cs i)
         ∙ sym (sum_by-cons field_count c (take (suc i) cs))

@@ -4,6 +4,7 @@ use Rattle.std.specs.Prelude.{slice_get, option_and_then, find, ◌&&◌}
 use Rattle.std.specs.Bool.{beq}
 use Rattle.std.specs.Str.{bytes_eq}
 use Rattle.ss_core.specs.Tree as core
+use Rattle.ss_core.specs.Chain.{names_of}
 use Rattle.ss_typed.specs.declared.body.TypedParam.{TypedParam}
 use Rattle.ss_typed.specs.View.{param}
 use Rattle.ss_paths.specs.Fields.{is_non_null}
@@ -14,7 +15,6 @@ use Rattle.ss_tables.specs.Named.{named_in}
 use Rattle.ss_tables_lookup.proofs.Noted.{first_item}
 use Rattle.std.proofs.lemmas.List.{drop_all}
 use Rattle.ss_ast.proofs.Loops.{drop_item}
-use Rattle.ss_nonnull.specs.Names.{entry_names}
 
 -- the first entry of this name has the body under it
 named_is : (es : List core.EntryTree) (n : List ℕ) → body_named es n ≡ body_of_entry (find (λ (e : core.EntryTree). bytes_eq n e.name) es)
@@ -26,14 +26,14 @@ named_is (e ∷ es) n = at (bytes_eq n e.name) (named_is es n)
     at true h = refl
     at false h = h
 
-pub named_found : (es : List core.EntryTree) (n : List ℕ) → body_of_entry (option_and_then (slice_get es) (named_in (places_of (entry_names es)) n)) ≡ body_named es n
+pub named_found : (es : List core.EntryTree) (n : List ℕ) → body_of_entry (option_and_then (slice_get es) (named_in (places_of (names_of es)) n)) ≡ body_named es n
 named_found es n = ap body_of_entry (first_item (λ (e : core.EntryTree). e.name) n es) ∙ sym (named_is es n)
 
-pub named_here : (es : List core.EntryTree) (n : List ℕ) (o r : Option ℕ) (k : ℕ) → o ≡ named_in (places_of (entry_names es)) n → o ≡ Some k → r ≡ body_of_entry (slice_get es k) → r ≡ body_named es n
+pub named_here : (es : List core.EntryTree) (n : List ℕ) (o r : Option ℕ) (k : ℕ) → o ≡ named_in (places_of (names_of es)) n → o ≡ Some k → r ≡ body_of_entry (slice_get es k) → r ≡ body_named es n
 named_here es n o r k is some q =
     q ∙ ap (λ (x : Option ℕ). body_of_entry (option_and_then (slice_get es) x)) (sym some ∙ is) ∙ named_found es n
 
-pub named_nowhere : (es : List core.EntryTree) (n : List ℕ) (o : Option ℕ) → o ≡ named_in (places_of (entry_names es)) n → o ≡ None → None ≡ body_named es n
+pub named_nowhere : (es : List core.EntryTree) (n : List ℕ) (o : Option ℕ) → o ≡ named_in (places_of (names_of es)) n → o ≡ None → None ≡ body_named es n
 named_nowhere es n o is none = ap (λ (x : Option ℕ). body_of_entry (option_and_then (slice_get es) x)) (sym none ∙ is) ∙ named_found es n
 
 -- ---- parameters

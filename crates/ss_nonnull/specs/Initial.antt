@@ -4,9 +4,10 @@ use Rattle.ss_faults.specs.declared.Fault.{Fault}
 use Rattle.ss_core.specs.declared.names.Ty.{Ty}
 use Rattle.ss_core.specs.Tree as core
 use Rattle.ss_core.specs.Kinds.{class_number}
+use Rattle.ss_core.specs.Chain.{fields_of}
 use Rattle.ss_typed.specs.Tree.{ExprTree, FieldTree, BaseTree, BodyTree, TypedTree}
 use Rattle.ss_paths.specs.Sets.{Set}
-use Rattle.ss_paths.specs.Fields.{Numbers, fields_in}
+use Rattle.ss_paths.specs.Fields.{Numbers}
 use Rattle.ss_paths.specs.Assigned.{starts_with_value, assigned_by_initializers, assigned_first}
 use Rattle.ss_nonnull_rules.specs.NonNull.{NullContext, Known}
 use Rattle.ss_nonnull_rules.specs.Faults.{handed_to_base}
@@ -43,7 +44,7 @@ context_with p t n = record { program = p; class = t; numbers = n; constructs = 
 -- the initializers of the class at this place, before whose fields there are so many
 abbrev pub class_faults : TypedTree → ℕ → ℕ → List FieldTree → List Fault
 class_faults p k first fs =
-    each_initial (context_with p (class_number k) (record { first = first; count = length (fields_in (slice_get p.classes k)) })) fs 0 fs (fields_in (slice_get p.classes k))
+    each_initial (context_with p (class_number k) (record { first = first; count = length (fields_of (slice_get p.classes k)) })) fs 0 fs (fields_of (slice_get p.classes k))
 
 -- ---- bodies
 

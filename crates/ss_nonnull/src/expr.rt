@@ -11,13 +11,12 @@ ghost use Rattle.ss_nonnull_seen.specs.Called.{called_types};
 ghost use Rattle.ss_nonnull_seen.specs.Codes.{path_of, context_of, seen_of};
 ghost use Rattle.ss_nonnull_seen.specs.Seen.{Leads, seen, plain, by_type};
 
-use ss_core::{BodyId, ClassId, Operator, Place, Ty, is_non_null};
+use ss_core::{BodyId, ClassId, Operator, Place, Ty, is_non_null, is_non_null_type};
 use ss_faults::Fault;
 use ss_nonnull_seen::{
     Called, Known, NullContext, Seen, aged, base_method, called, class_tested, constructor,
-    element_read, field_read, is_non_null_type, learn_side, learnt_at, literal, local_read,
-    method_of, negated, note_lacking, null_literal, operated, plain, static_method, this_object,
-    type_at,
+    element_read, field_read, learn_side, learnt_at, literal, local_read, method_of, negated,
+    note_lacking, null_literal, operated, plain, static_method, this_object, type_at,
 };
 use ss_typed::{TypedExpr, TypedLink, TypedStep, class_type, place_of, type_of};
 use std::alloc::{AllocError, Global};

@@ -4,9 +4,9 @@ ghost use Rattle.std.specs.Prelude.{◌≡◌, ◌++◌, ◌+◌, IfOk, OnOk, Op
 ghost use Rattle.ss_core.specs.View.{class_of, field_of};
 ghost use Rattle.ss_paths.specs.Sets.{none};
 ghost use Rattle.ss_paths.specs.Assigned.{starts_with_value};
-ghost use Rattle.ss_paths.specs.Fields.{fields_in};
 ghost use Rattle.ss_typed.specs.View.{typed, expr, field, members};
 ghost use Rattle.ss_core.specs.Kinds.{class_number};
+ghost use Rattle.ss_core.specs.Chain.{fields_of};
 ghost use Rattle.ss_nonnull_rules.specs.Program.{classes_faults};
 ghost use Rattle.ss_paths_assigned.specs.Codes.{numbers_of, assigned_of};
 ghost use Rattle.ss_nonnull_seen.specs.Codes.{known_of, path_of, context_of};
@@ -19,7 +19,7 @@ use ss_core::{Class, Field, Ty};
 use ss_faults::Fault;
 use ss_nonnull_seen::{Known, NullContext, begin};
 use ss_paths_assigned::{Assigned, Numbers};
-use ss_typed::{Typed, TypedClass, TypedExpr, TypedField};
+use ss_typed::{Typed, TypedClass, TypedExpr, TypedField, class_at};
 use std::alloc::{AllocError, Global};
 
 /// Where these fields are assigned, and nothing is known of a local.
@@ -41,7 +41,7 @@ fn nothing_begun(alloc: Global) -> Option<Known>
 }
 
 fn field_at(class: Option<&Class>, place: usize) -> Option<&Field>
-    ensures { option_map (λ f. field_of f.now) result ≡ slice_get (fields_in (option_map (λ c. class_of c.now) class.entry)) place }
+    ensures { option_map (λ f. field_of f.now) result ≡ slice_get (fields_of (option_map (λ c. class_of c.now) class.entry)) place }
 {
     match class {
         Some(class) => class.fields.get(place),
@@ -94,7 +94,7 @@ fn check_initials(
     fields: &[TypedField],
 ) -> Result<(), AllocError>
     ensures { OnOk result (found.new.items ≡ found.old.items
-        ++ each_initial (context_of context.now) (map field fields.now) 0 (map field fields.now) (fields_in (option_map (λ c. class_of c.now) class.entry))) }
+        ++ each_initial (context_of context.now) (map field fields.now) 0 (map field fields.now) (fields_of (option_map (λ c. class_of c.now) class.entry))) }
 {
     let mut known = nothing_begun(context.alloc);
     for (place, declared) in fields.iter().enumerate() {
@@ -108,18 +108,12 @@ fn check_initials(
 // ---- classes
 
 fn field_count(class: Option<&Class>) -> usize
-    ensures { result ≡ length (fields_in (option_map (λ c. class_of c.now) class.entry)) }
+    ensures { result ≡ length (fields_of (option_map (λ c. class_of c.now) class.entry)) }
 {
     match class {
         Some(class) => class.fields.len(),
         None => 0,
     }
-}
-
-fn class_at(program: &Typed, place: usize) -> Option<&Class>
-    ensures { option_map (λ c. class_of c.now) result ≡ slice_get (typed program.now).classes place }
-{
-    program.classes.list.get(place)
 }
 
 // The number of the class at this place. More classes than a word numbers don't fit into memory.
@@ -160,7 +154,7 @@ fn check_class(
     first: usize,
     declared: &TypedClass,
 ) -> Result<usize, AllocError>
-    ensures first { IfOk result (λ n. n ≡ first + length (fields_in (slice_get (typed program.now).classes place))) }
+    ensures first { IfOk result (λ n. n ≡ first + length (fields_of (slice_get (typed program.now).classes place))) }
     ensures noted { OnOk result (found.new.items ≡ found.old.items ++ class_faults (typed program.now) place first (members declared.now).fields) }
 {
     let class = class_at(program, place);

@@ -4,23 +4,23 @@ ghost use Rattle.std.specs.Prelude.{◌≡◌, ◌++◌, [], ◌∷◌, IfOk, On
 ghost use Rattle.std.specs.Bool.{beq};
 ghost use Rattle.ss_paths.specs.Fields.{is_non_null};
 ghost use Rattle.ss_core.specs.View.{classes, class_of, entry_of};
-ghost use Rattle.ss_core.specs.Chain.{declared};
+ghost use Rattle.ss_core.specs.Chain.{declared, names_of};
 ghost use Rattle.ss_typed.specs.View.{typed, body, param};
 ghost use Rattle.ss_nonnull_rules.specs.Faults.{table_of, body_of_entry};
 ghost use Rattle.ss_nonnull_rules.specs.Overrides.{body_named, overridden, agree, agrees_with, override_faults};
 ghost use Rattle.ss_tables_lookup.specs.Places.{places_of};
-ghost use Rattle.ss_nonnull.specs.Names.{entry_names, table_names, mark_fault};
+ghost use Rattle.ss_nonnull.specs.Names.{table_names, mark_fault};
 
-use ss_core::{BodyId, Class, ClassId, Entry, Place, Rule, is_non_null};
+use ss_core::{BodyId, Class, ClassId, Entry, Place, Rule, is_non_null, is_non_null_type};
 use ss_faults::Fault;
-use ss_nonnull_seen::{body_of_entry, entry_at, is_non_null_type};
+use ss_nonnull_seen::{body_of_entry, entry_at};
 use ss_tables_lookup::NameMap;
-use ss_typed::{Typed, TypedBody, TypedParam, body_at};
+use ss_typed::{Typed, TypedBody, TypedParam, body_at, class_at};
 use std::alloc::{AllocError, Global};
 
 // The methods of a class's table by name, each by its first place.
 fn names_of(alloc: Global, entries: &[Entry]) -> Result<NameMap<usize>, AllocError>
-    ensures { IfOk result (λ p. p ≡ places_of (entry_names (map entry_of entries.now))) }
+    ensures { IfOk result (λ p. p ≡ places_of (names_of (map entry_of entries.now))) }
 {
     let mut places = NameMap::new(alloc);
     for (place, entry) in entries.iter().enumerate() {
@@ -58,13 +58,7 @@ fn body_named(class: &Class, names: &NameMap<usize>, name: &str) -> Option<BodyI
     }
 }
 
-// The class at this place, and the names of its table.
-fn class_at(program: &Typed, place: usize) -> Option<&Class>
-    ensures { option_map (λ c. class_of c.now) result ≡ slice_get (typed program.now).classes place }
-{
-    program.classes.list.get(place)
-}
-
+// The names of the table of the class at this place.
 fn names_at(names: &[NameMap<usize>], place: usize) -> Option<&NameMap<usize>>
     ensures { option_map (λ p. p.now) result ≡ slice_get names.now place }
 {

@@ -5,6 +5,7 @@ use Rattle.ss_ast.specs.declared.stmt.AssignOperator.TheVariants as assign
 use Rattle.ss_core.specs.declared.names.Ty.{Ty}
 use Rattle.ss_core.specs.declared.expr.Operator.{Operator}
 use Rattle.ss_core.specs.declared.expr.Operator.TheVariants as op
+pub use Rattle.ss_core.specs.Types.{is_non_null_type}
 use Rattle.ss_typed.specs.Tree.{ExprTree, ThisOf, LocalOf, ResultOf, FieldOf, CastOf, OldOf, NewOf, NewArrayOf, CallOf, StaticOf, BaseOf, DeclaratorTree, SimpleTree, AssignOf, StmtTree, TypedTree}
 use Rattle.ss_paths.specs.Sets.{Set, either, both, put}
 use Rattle.ss_paths.specs.Fields.{Numbers, is_non_null}
@@ -38,10 +39,6 @@ knows (Some k) x = k.facts x
 abbrev pub has_its_field : NullContext → Option Known → ℕ → Bool
 has_its_field s None f = true
 has_its_field s (Some k) f = has_field s.numbers k.fields f
-
-abbrev pub is_non_null_type : Option Ty → Bool
-is_non_null_type None = false
-is_non_null_type (Some t) = is_non_null t
 
 -- In a constructor a field of `this` has its type only once it is assigned, and inside `old` no field has.
 abbrev pub field_is_set : NullContext → Option Known → ExprTree → ℕ → Bool

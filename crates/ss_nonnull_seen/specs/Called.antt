@@ -3,8 +3,8 @@ use Rattle.std.specs.Prelude.{List, [], map}
 use Rattle.ss_core.specs.declared.names.Ty.{Ty}
 use Rattle.ss_typed.specs.Tree.{ParamTree}
 use Rattle.ss_typed.specs.View.{param}
-use Rattle.ss_nonnull_seen.specs.declared.called.Called.{Called}
-use Rattle.ss_nonnull_seen.specs.declared.called.Called.TheVariants as called
+use Rattle.ss_nonnull_seen.specs.declared.calls.Called.{Called}
+use Rattle.ss_nonnull_seen.specs.declared.calls.Called.TheVariants as called
 
 -- the types of its parameters
 abbrev pub called_types : Called → List Ty

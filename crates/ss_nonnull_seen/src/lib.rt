@@ -2,13 +2,12 @@
 //! program for that: the types of parts, and the bodies that calls name.
 #![tactic(auto)]
 
-mod called;
+mod calls;
 mod context;
 mod known;
 mod seen;
-mod types;
 
-pub use called::{
+pub use calls::{
     Called, above, base_method, body_of_entry, constructor, entry_at, method_of, static_method,
     type_at,
 };
@@ -18,4 +17,3 @@ pub use seen::{
     Seen, aged, called, class_tested, element_read, field_read, learn_side, learnt_at, literal,
     local_read, negated, note_lacking, note_null, null_literal, operated, plain, this_object,
 };
-pub use types::is_non_null_type;

@@ -9,9 +9,8 @@ ghost use Rattle.ss_nonnull_seen.specs.Codes.{path_of, context_of, seen_of};
 ghost use Rattle.ss_nonnull_seen.specs.Seen.{plain, literal, null_literal, this_object, local_read, negated, aged, telling, class_tested, compared_by, operated, is_set, field_read, element_read, called, fault_where, lacks, lacking, learnt_at, side_of};
 
 use crate::context::NullContext;
-use crate::is_non_null_type;
 use crate::known::{Known, has_its_field, knows, learned};
-use ss_core::{ClassId, FieldId, Operator, Place, Rule, Ty, is_non_null};
+use ss_core::{ClassId, FieldId, Operator, Place, Rule, Ty, is_non_null, is_non_null_type};
 use ss_faults::Fault;
 use ss_typed::{class_type, element_of};
 use std::alloc::{AllocError, Global};

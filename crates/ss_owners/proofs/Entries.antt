@@ -6,6 +6,7 @@ use Rattle.ss_core.specs.declared.class.Class.{Class}
 use Rattle.ss_core.specs.declared.class.Field.{Field}
 use Rattle.ss_core.specs.View.{class_of, field_of}
 use Rattle.ss_core.specs.Tree as core
+use Rattle.ss_core.specs.Chain.{fields_of}
 use Rattle.ss_faults.specs.declared.Fault.{Fault}
 use Rattle.ss_typed.specs.declared.program.TypedField.{TypedField}
 use Rattle.ss_typed.specs.Tree.{FieldTree}
@@ -13,7 +14,6 @@ use Rattle.ss_typed.specs.declared.program.TypedClass.{TypedClass}
 use Rattle.ss_typed.specs.declared.program.TypedInvariant.{TypedInvariant}
 use Rattle.ss_typed.specs.declared.program.Typed.{Typed}
 use Rattle.ss_typed.specs.View.{field, invariant_of, members, typed}
-use Rattle.ss_paths.specs.Fields.{fields_in}
 use Rattle.ss_owners_rules.specs.Admissible.{field_marks}
 use Rattle.ss_ast.proofs.Loops.{drop_next}
 use Rattle.ss_owners_rules.specs.Program.{field_faults, fields_faults, invariants_faults, class_faults}
@@ -35,19 +35,19 @@ without_entries [] = refl
 without_entries (f ∷ fs) = refl
 
 -- where a class has no entry
-pub nothing_entered : (fs : List FieldTree) (o : Option (Bor Class)) (f : List Fault) → o ≡ None → f ≡ f ++ fields_faults fs (fields_in (option_map (λ (k : Bor Class). class_of k.now) o))
+pub nothing_entered : (fs : List FieldTree) (o : Option (Bor Class)) (f : List Fault) → o ≡ None → f ≡ f ++ fields_faults fs (fields_of (option_map (λ (k : Bor Class). class_of k.now) o))
 nothing_entered fs o f none =
-    sym (ap (λ (q : Option (Bor Class)). f ++ fields_faults fs (fields_in (option_map (λ (k : Bor Class). class_of k.now) q))) none ∙ ap (λ (z : List Fault). f ++ z) (without_entries fs) ∙ append-nil f)
+    sym (ap (λ (q : Option (Bor Class)). f ++ fields_faults fs (fields_of (option_map (λ (k : Bor Class). class_of k.now) q))) none ∙ ap (λ (z : List Fault). f ++ z) (without_entries fs) ∙ append-nil f)
 
 -- a class, its fields first
 pub class_found : (t : Typed) (k : ℕ) (c : TypedClass) (ms : List Mark) (o : Option core.ClassTree) (fs : List TypedField) (rest : List TypedInvariant) (f0 f1 f2 : List Fault)
     → ms ≡ field_marks (typed t).classes → o ≡ slice_get (typed t).classes k → fs ≡ c.fields.items → rest ≡ c.invariants.items
-    → f1 ≡ f0 ++ fields_faults (map field fs) (fields_in o) → f2 ≡ f1 ++ invariants_faults ms (map invariant_of rest) → f2 ≡ f0 ++ class_faults (typed t) k (members c)
+    → f1 ≡ f0 ++ fields_faults (map field fs) (fields_of o) → f2 ≡ f1 ++ invariants_faults ms (map invariant_of rest) → f2 ≡ f0 ++ class_faults (typed t) k (members c)
 class_found t k c ms o fs rest f0 f1 f2 ms_is o_is fs_is rest_is f1_is f2_is =
     f2_is
     ∙ ap (λ (z : List Fault). z ++ invariants_faults ms (map invariant_of rest)) f1_is
-    ∙ append_assoc f0 (fields_faults (map field fs) (fields_in o)) (invariants_faults ms (map invariant_of rest))
-    ∙ ap (λ (z : List Mark). f0 ++ (fields_faults (map field fs) (fields_in o) ++ invariants_faults z (map invariant_of rest))) ms_is
-    ∙ ap (λ (z : Option core.ClassTree). f0 ++ (fields_faults (map field fs) (fields_in z) ++ invariants_faults (field_marks (typed t).classes) (map invariant_of rest))) o_is
-    ∙ ap (λ (z : List TypedField). f0 ++ (fields_faults (map field z) (fields_in (slice_get (typed t).classes k)) ++ invariants_faults (field_marks (typed t).classes) (map invariant_of rest))) fs_is
-    ∙ ap (λ (z : List TypedInvariant). f0 ++ (fields_faults (map field c.fields.items) (fields_in (slice_get (typed t).classes k)) ++ invariants_faults (field_marks (typed t).classes) (map invariant_of z))) rest_is
+    ∙ append_assoc f0 (fields_faults (map field fs) (fields_of o)) (invariants_faults ms (map invariant_of rest))
+    ∙ ap (λ (z : List Mark). f0 ++ (fields_faults (map field fs) (fields_of o) ++ invariants_faults z (map invariant_of rest))) ms_is
+    ∙ ap (λ (z : Option core.ClassTree). f0 ++ (fields_faults (map field fs) (fields_of z) ++ invariants_faults (field_marks (typed t).classes) (map invariant_of rest))) o_is
+    ∙ ap (λ (z : List TypedField). f0 ++ (fields_faults (map field z) (fields_of (slice_get (typed t).classes k)) ++ invariants_faults (field_marks (typed t).classes) (map invariant_of rest))) fs_is
+    ∙ ap (λ (z : List TypedInvariant). f0 ++ (fields_faults (map field c.fields.items) (fields_of (slice_get (typed t).classes k)) ++ invariants_faults (field_marks (typed t).classes) (map invariant_of z))) rest_is

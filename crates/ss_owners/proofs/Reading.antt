@@ -17,13 +17,13 @@ use Rattle.ss_typed.proofs.Grouping.{chain_is, chain_some, grouped_more, link_sh
 use Rattle.std.proofs.lemmas.List.{take_all}
 use Rattle.ss_owners_rules.specs.Admissible.{inadmissible}
 use Rattle.ss_owners.specs.declared.reads.Reached.{Reached}
-use Rattle.ss_owners.specs.Parts.{nowhere, nothing}
+use Rattle.ss_owners.specs.Parts.{no_place, nothing}
 use Rattle.ss_owners.specs.Reads.{reached, nothing_reached, link_reads, links_reads, IsRead, Leads}
 use Rattle.ss_owners.proofs.Added.{joined, three_joined}
 
 -- ---- chains
 
-link_added : (ms : List Mark) (s : TypedLink-F ExprTree Behind Behind) (p : Place) (t : ExprTree) → inadmissible ms (link_step s p t) ≡ inadmissible ms t ++ inadmissible ms (link_step s nowhere nothing)
+link_added : (ms : List Mark) (s : TypedLink-F ExprTree Behind Behind) (p : Place) (t : ExprTree) → inadmissible ms (link_step s p t) ≡ inadmissible ms t ++ inadmissible ms (link_step s no_place nothing)
 link_added ms (shape.Operation op e) p t = refl
 link_added ms (shape.Is c) p t = sym (append-nil (inadmissible ms t))
 link_added ms (shape.As c) p t = sym (append-nil (inadmissible ms t))
@@ -31,7 +31,7 @@ link_added ms (shape.As c) p t = sym (append-nil (inadmissible ms t))
 reads_link : (ms : List Mark) (l : TypedLink) (p : Place) (t : ExprTree) → inadmissible ms (link_behind l p t) ≡ inadmissible ms t ++ link_reads ms l
 reads_link ms l p t =
     let s = link_shape l in
-    ap (λ (b : Behind). inadmissible ms (b p t)) s.is ∙ link_added ms s.shape p t ∙ sym (ap (λ (b : Behind). inadmissible ms t ++ inadmissible ms (b nowhere nothing)) s.is)
+    ap (λ (b : Behind). inadmissible ms (b p t)) s.is ∙ link_added ms s.shape p t ∙ sym (ap (λ (b : Behind). inadmissible ms t ++ inadmissible ms (b no_place nothing)) s.is)
 
 reads_links : (ms : List Mark) (p : Place) (t : ExprTree) (ls : List TypedLink) → inadmissible ms (grouped p t (map link_behind ls)) ≡ inadmissible ms t ++ links_reads ms ls
 reads_links ms p t [] = sym (append-nil (inadmissible ms t))

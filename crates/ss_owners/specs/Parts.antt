@@ -1,10 +1,12 @@
 -- Words of conditions in the parts of chains and paths.
 use Rattle.std.specs.Prelude.{List, [], ◌∷◌, ◌++◌}
 use Rattle.ss_core.specs.declared.names.Place.{Place}
+pub use Rattle.ss_core.specs.Parts.{no_place}
 use Rattle.ss_typed.specs.declared.expr.TypedLink.{TypedLink}
 use Rattle.ss_typed.specs.declared.expr.TypedStep.{TypedStep}
-use Rattle.ss_typed.specs.Tree.{ExprTree, NullOf}
+use Rattle.ss_typed.specs.Tree.{ExprTree}
 use Rattle.ss_typed.specs.Parts.{link_behind, step_behind}
+pub use Rattle.ss_typed.specs.Parts.{nothing}
 use Rattle.ss_owners_rules.specs.Words as words
 use Rattle.ss_owners_rules.specs.Words.{misplaced}
 use Rattle.ss_owners.specs.declared.words.Allowed.{Allowed}
@@ -16,19 +18,12 @@ allowed_of allowed.Questions = words.Questions
 allowed_of allowed.OfEntry = words.OfEntry
 allowed_of allowed.EveryWord = words.EveryWord
 
--- an expression without a word
-abbrev pub nowhere : Place
-nowhere = record { line = 0; column = 0 }
-
-abbrev pub nothing : ExprTree
-nothing = NullOf nowhere
-
 -- what a link or a step adds to the places in what stands before it
 abbrev pub link_words : words.Allowed → TypedLink → List Place
-link_words a l = misplaced a (link_behind l nowhere nothing)
+link_words a l = misplaced a (link_behind l no_place nothing)
 
 abbrev pub step_words : words.Allowed → TypedStep → List Place
-step_words a s = misplaced a (step_behind s nowhere nothing)
+step_words a s = misplaced a (step_behind s no_place nothing)
 
 abbrev pub links_words : words.Allowed → List TypedLink → List Place
 links_words a [] = []

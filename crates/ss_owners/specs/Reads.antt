@@ -9,7 +9,7 @@ use Rattle.ss_typed.specs.Parts.{link_behind}
 use Rattle.ss_owners_rules.specs.Admissible.{field_mark, is_owned_path, is_untyped, inadmissible}
 use Rattle.ss_core.specs.Marks.{is_rep, is_rep_or_peer}
 use Rattle.ss_owners.specs.declared.reads.Reached.{Reached}
-use Rattle.ss_owners.specs.Parts.{nowhere, nothing}
+use Rattle.ss_owners.specs.Parts.{no_place, nothing}
 
 -- ---- what an expression is to the step behind it
 
@@ -37,7 +37,7 @@ behind_field ms r f = record {
 
 -- what a link adds to the places in what stands before it
 abbrev pub link_reads : List Mark → TypedLink → List Place
-link_reads ms l = inadmissible ms (link_behind l nowhere nothing)
+link_reads ms l = inadmissible ms (link_behind l no_place nothing)
 
 abbrev pub links_reads : List Mark → List TypedLink → List Place
 links_reads ms [] = []

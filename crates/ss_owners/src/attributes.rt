@@ -3,11 +3,11 @@
 ghost use Rattle.std.specs.Prelude.{◌≡◌, ◌++◌, OnOk, map, codes};
 ghost use Rattle.std.specs.Str.{bytes_eq};
 ghost use Rattle.ss_ast.specs.Expressions.{name_tree};
-ghost use Rattle.ss_owners_rules.specs.Attributes.{is_reference, is_mark, excludes, is_excluded, is_bad, bad_attributes};
+ghost use Rattle.ss_owners_rules.specs.Attributes.{is_mark, excludes, is_excluded, is_bad, bad_attributes};
 ghost use Rattle.ss_owners.specs.Bearers.{names_of, places_if};
 
 use ss_ast::Name;
-use ss_core::{Place, Ty};
+use ss_core::{Place, Ty, is_class_type};
 use std::alloc::AllocError;
 
 /// What an attribute stands on.
@@ -22,15 +22,6 @@ pub enum Bearer {
     Invariant,
 }
 
-fn is_reference(ty: Ty) -> bool
-    ensures { result ≡ is_reference ty }
-{
-    match ty {
-        Ty::Int | Ty::Bool | Ty::Null => false,
-        Ty::Ref { .. } => true,
-    }
-}
-
 fn is_mark(name: &str) -> bool
     ensures { result ≡ is_mark name.now }
 {
@@ -42,8 +33,8 @@ fn may_stand(on: Bearer, name: &str) -> bool
     ensures { result ≡ names_of on name.now }
 {
     match on {
-        Bearer::Field(ty) => is_reference(ty) && is_mark(name),
-        Bearer::Param(ty) => is_reference(ty) && name == "Captured",
+        Bearer::Field(ty) => is_class_type(ty) && is_mark(name),
+        Bearer::Param(ty) => is_class_type(ty) && name == "Captured",
         Bearer::Constructor => name == "NotDelayed",
         Bearer::Method => name == "Pure" || name == "NoDefaultContract",
         Bearer::Invariant => false,

@@ -1,11 +1,11 @@
 // The faults of ownership of a whole program, and the first of them.
 
-ghost use Rattle.std.specs.Prelude.{◌≡◌, ◌++◌, OnOk, IfOk, map, option_map, slice_get, true, false};
+ghost use Rattle.std.specs.Prelude.{◌≡◌, ◌++◌, OnOk, IfOk, map, option_map, true, false};
 ghost use Rattle.ss_faults.specs.First.{first_fault, Answers};
 ghost use Rattle.ss_ast.specs.Expressions.{name_tree};
 ghost use Rattle.ss_core.specs.View.{class_of, field_of};
+ghost use Rattle.ss_core.specs.Chain.{fields_of};
 ghost use Rattle.ss_typed.specs.View.{base, block, body, expr, exprs, field, invariant_of, members, modified, param, typed};
-ghost use Rattle.ss_paths.specs.Fields.{fields_in};
 ghost use Rattle.ss_owners_rules.specs.Words.{NoWord, Questions, EveryWord, misplaced, misplaced_if, misplaced_in, misplaced_in_all};
 ghost use Rattle.ss_owners_rules.specs.Admissible.{field_marks, inadmissible};
 ghost use Rattle.ss_owners_rules.specs.Attributes.{on_body, bad_attributes};
@@ -24,7 +24,7 @@ use ss_core::{Class, Field, FrontStop, Mark, Place};
 use ss_faults::{Fault, answer, first_fault};
 use ss_typed::{
     Typed, TypedBase, TypedBody, TypedClass, TypedExpr, TypedField, TypedInvariant, TypedModifies,
-    TypedParam,
+    TypedParam, class_at,
 };
 use std::alloc::{AllocError, Global};
 
@@ -148,18 +148,12 @@ fn check_fields_of(
     class: Option<&Class>,
     found: &mut Vec<Fault>,
 ) -> Result<(), AllocError>
-    ensures { OnOk result (found.new.items ≡ found.old.items ++ fields_faults (map field fields.now) (fields_in (option_map (λ c. class_of c.now) class.entry))) }
+    ensures { OnOk result (found.new.items ≡ found.old.items ++ fields_faults (map field fields.now) (fields_of (option_map (λ c. class_of c.now) class.entry))) }
 {
     match class {
         Some(class) => check_fields(alloc, fields, &class.fields, found),
         None => Ok(()),
     }
-}
-
-fn class_at(program: &Typed, place: usize) -> Option<&Class>
-    ensures { option_map (λ c. class_of c.now) result ≡ slice_get (typed program.now).classes place }
-{
-    program.classes.list.get(place)
 }
 
 fn check_class(

@@ -5,28 +5,22 @@ use Rattle.std.specs.Str.{bytes_eq}
 use Rattle.ss_core.specs.declared.names.Place.{Place}
 use Rattle.ss_ast.specs.Expressions.{NameTree}
 use Rattle.ss_core.specs.declared.names.Ty.{Ty}
-use Rattle.ss_core.specs.declared.names.Ty.TheVariants as ty
+use Rattle.ss_core.specs.Types.{is_class_type}
 
 -- which names may stand on something
 abbrev pub Names : Type 0
 Names = List ℕ → Bool
-
-abbrev pub is_reference : Ty → Bool
-is_reference ty.Int = false
-is_reference ty.Bool = false
-is_reference ty.Null = false
-is_reference (ty.Ref t non_null) = true
 
 abbrev pub is_mark : Names
 is_mark n = bytes_eq n (codes "Rep") || bytes_eq n (codes "Peer")
 
 -- on a field of this type
 abbrev pub on_field : Ty → Names
-on_field t n = is_reference t && is_mark n
+on_field t n = is_class_type t && is_mark n
 
 -- on a parameter of this type
 abbrev pub on_param : Ty → Names
-on_param t n = is_reference t && bytes_eq n (codes "Captured")
+on_param t n = is_class_type t && bytes_eq n (codes "Captured")
 
 -- on a constructor, or on a method
 abbrev pub on_body : Bool → Names

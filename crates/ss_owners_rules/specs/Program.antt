@@ -5,9 +5,10 @@ use Rattle.ss_core.specs.declared.names.Place.{Place}
 use Rattle.ss_core.specs.declared.rules.Rule.TheVariants as rule
 use Rattle.ss_core.specs.Rules.{rule_number}
 use Rattle.ss_faults.specs.declared.Fault.{Fault}
+pub use Rattle.ss_faults.specs.First.{at}
 use Rattle.ss_core.specs.Tree as core
+use Rattle.ss_core.specs.Chain.{fields_of}
 use Rattle.ss_typed.specs.Tree.{ParamTree, ModifiedTree, OneOf, AllOf, ElementsOf, BaseTree, BodyTree, FieldTree, InvariantTree, MembersTree, TypedTree}
-use Rattle.ss_paths.specs.Fields.{fields_in}
 use Rattle.ss_owners_rules.specs.Words.{NoWord, Questions, EveryWord, misplaced, misplaced_each, misplaced_in_all, misplaced_if, misplaced_in}
 use Rattle.ss_owners_rules.specs.Admissible.{field_marks, inadmissible}
 use Rattle.ss_owners_rules.specs.Attributes.{on_field, on_param, on_body, on_invariant, bad_attributes}
@@ -21,9 +22,6 @@ misplaced_word = rule_number rule.MisplacedWord
 
 abbrev pub bad_attribute : ℕ
 bad_attribute = rule_number rule.BadAttribute
-
-abbrev pub at : ℕ → Place → Fault
-at n p = record { rule = n; place = p }
 
 abbrev pub of_reads : List Place → List Fault
 of_reads ps = map (at not_admissible) ps
@@ -56,7 +54,7 @@ fields_faults (f ∷ fs) (g ∷ gs) = field_faults f g ++ fields_faults fs gs
 
 -- the class at place k of the list
 abbrev pub class_faults : TypedTree → ℕ → MembersTree → List Fault
-class_faults p k c = fields_faults c.fields (fields_in (slice_get p.classes k)) ++ invariants_faults (field_marks p.classes) c.invariants
+class_faults p k c = fields_faults c.fields (fields_of (slice_get p.classes k)) ++ invariants_faults (field_marks p.classes) c.invariants
 
 -- these classes, the first of which stands at place k
 abbrev pub classes_faults : TypedTree → ℕ → List MembersTree → List Fault

@@ -41,8 +41,3 @@ unary_start_of (unary.Quantifier p q) = QuantifierHead p q
 abbrev pub inside_of : Inside → Enclosed
 inside_of (inside.Type t) = AType (type_tree t)
 inside_of (inside.Expr e) = AnExpr (expr_tree e.value)
-
--- whether f holds of the first
-abbrev pub first_is : {T : Type 0} → (T → Bool) → List T → Bool
-first_is f [] = false
-first_is f (t ∷ ts) = f t

@@ -4,9 +4,8 @@ ghost use Rattle.std.specs.Prelude.{◌≡◌, ◌==◌, ◌<◌, length, option
 ghost use Rattle.ss_ast.specs.Tokens.{kind_of, tok};
 ghost use Rattle.ss_ast.specs.Expressions.{name_tree, expr_tree};
 ghost use Rattle.ss_grammar_expressions.specs.Heads.{the, symbol_number, the_word, type_head, link_head, link_of, link_symbol, link_word, pieces, Operation, castable, castable_word, type_word_of, unary_symbol, unary_word, unary_head, AToken, Leaf};
-ghost use Rattle.ss_parser_expression_trees.specs.View.{first_is};
 ghost use Rattle.ss_grammar_expressions.specs.Parser.{give, name_at};
-ghost use Rattle.ss_grammar.specs.Reading.{take, seen};
+ghost use Rattle.ss_grammar.specs.Reading.{take, seen, ahead};
 ghost use Rattle.ss_grammar.specs.Stops.{Gives};
 ghost use Rattle.ss_parser_expression_trees.specs.View.{start_of, joint_of, ranked_of, unary_start_of};
 
@@ -311,7 +310,7 @@ pub fn next_joint(tokens: &[Token], rank: u32) -> Option<(Joint, &[Token])>
 
 /// Whether the operand of a cast may begin here.
 pub fn is_castable(tokens: &[Token]) -> bool
-    ensures { result ≡ first_is castable (pieces tokens.now) }
+    ensures { result ≡ ahead castable (pieces tokens.now) }
 {
     match tokens {
         [Token { kind, .. }, ..] => match kind {

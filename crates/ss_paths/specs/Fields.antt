@@ -2,16 +2,13 @@
 use Rattle.std.specs.Prelude.{ℕ, ◌+◌, ◌-◌, List, [], length, sum_by, take, Bool, ◌&&◌, nat_le, nat_lt, Option, Some, None, slice_get}
 use Rattle.ss_core.specs.Tree as core
 pub use Rattle.ss_core.specs.Types.{is_non_null}
+use Rattle.ss_core.specs.Chain.{fields_of}
 use Rattle.ss_typed.specs.Tree.{FieldTree, MembersTree, TypedTree}
 use Rattle.ss_typed.specs.Lookups.{class_place}
 
-abbrev pub fields_in : Option core.ClassTree → List core.FieldTree
-fields_in None = []
-fields_in (Some c) = c.fields
-
 -- the fields that the class declares
 abbrev pub own_fields : TypedTree → ℕ → List core.FieldTree
-own_fields p t = fields_in (slice_get p.classes (class_place t))
+own_fields p t = fields_of (slice_get p.classes (class_place t))
 
 abbrev pub fields_of_members : Option MembersTree → List FieldTree
 fields_of_members None = []

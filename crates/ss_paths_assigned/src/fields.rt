@@ -3,8 +3,9 @@
 ghost use Rattle.std.specs.Prelude.{◌≡◌, ◌++◌, ◌+◌, List, ◌∷◌, IfOk, length, map, option_map, slice_get};
 ghost use Rattle.ss_core.specs.Tree.{ClassTree};
 ghost use Rattle.ss_core.specs.View.{class_of, classes};
+ghost use Rattle.ss_core.specs.Chain.{fields_of};
 ghost use Rattle.ss_typed.specs.View.{members, typed};
-ghost use Rattle.ss_paths.specs.Fields.{fields_in, field_count, field_numbers, is_among};
+ghost use Rattle.ss_paths.specs.Fields.{field_count, field_numbers, is_among};
 ghost use Rattle.ss_typed.specs.Lookups.{class_place};
 ghost use Rattle.ss_paths_assigned.specs.Numbered.{firsts_from};
 
@@ -114,7 +115,7 @@ impl<'p> Fields<'p> {
 
 // How many fields a class declares, where there is one.
 fn count_fields(class: Option<&Class>) -> usize
-    ensures { result ≡ length (fields_in (option_map (λ c. class_of c.now) class.entry)) }
+    ensures { result ≡ length (fields_of (option_map (λ c. class_of c.now) class.entry)) }
 {
     match class {
         Some(class) => field_count(class),

@@ -2,7 +2,7 @@
 use Rattle.std.specs.Prelude.{ℕ, ◌+◌, List, [], ◌∷◌, ◌++◌, Bool, true, false, ◌==◌, Option, Some, None, slice_get, if◌then◌else◌}
 use Rattle.std.specs.List.{list_any}
 use Rattle.ss_core.specs.Tree.{BodyTree, CoreTree}
-use Rattle.ss_report_names.specs.Names.{declared_name}
+use Rattle.ss_report_names.specs.Names.{declared_name, name_of_body}
 use Rattle.ss_vcgen_heaps.specs.Positions.{Obligation}
 use Rattle.ss_search_answers.specs.declared.answers.Countered.{Countered}
 use Rattle.ss_search_answers.specs.declared.answers.Undecided.{Undecided}
@@ -25,10 +25,6 @@ budget_of (u ∷ us) k = if u.obligation == k then Some u.cause else budget_of u
 abbrev pub class_of_body : CoreTree → Option BodyTree → List ℕ
 class_of_body c None = []
 class_of_body c (Some b) = declared_name c.classes b.class
-
-abbrev pub name_of_body : Option BodyTree → List ℕ
-name_of_body None = []
-name_of_body (Some b) = b.name
 
 -- the line of an obligation that a model refutes, or for which a budget wasn't enough; nothing of another
 abbrev pub line_of : CoreTree → Obligation → Bool → Option Budget → List ℕ

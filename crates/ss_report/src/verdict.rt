@@ -2,12 +2,13 @@
 
 ghost use Rattle.std.specs.Prelude.{◌≡◌, ◌+◌, ◌<◌, ◌++◌, ℕ, List, IfOk, OnOk, string_bytes, slice_get};
 ghost use Rattle.ss_core.specs.View as view;
+ghost use Rattle.ss_report_names.specs.Names.{name_of_body};
 ghost use Rattle.ss_terms.specs.declared.forms.FormulaId.{FormulaId};
 ghost use Rattle.ss_terms.specs.Forms.{Forms};
 ghost use Rattle.ss_vcgen_builder.specs.Builder.{obligation_at, obligations_at};
 ghost use Rattle.ss_vcgen_builder.specs.Built.{trees};
 ghost use Rattle.ss_search_answers.specs.Listed.{countered_numbers, countered_of, undecided_numbers, undecided_of, AreRisingFrom};
-ghost use Rattle.ss_report.specs.Verdict.{verdict_text as verdict_of, listed_text as lines_of, line_of, is_countered, budget_of, class_of_body, name_of_body};
+ghost use Rattle.ss_report.specs.Verdict.{verdict_text as verdict_of, listed_text as lines_of, line_of, is_countered, budget_of, class_of_body};
 
 use crate::texts::{Check, push_not_proved, push_undecided};
 use ss_core::{BodyId, Core};

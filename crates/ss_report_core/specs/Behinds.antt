@@ -1,26 +1,11 @@
--- Parts of expressions and of statements: what a link of a chain and a step of a path write behind what stands before them, what a question writes
--- around what it asks of, and a loop.
+-- What a link of a chain and a step of a path write behind what stands before them, and what a question writes around what it asks of.
 use Rattle.std.specs.Prelude.{ℕ, List, [], ◌++◌, codes, drop}
 use Rattle.std.specs.List.{flat_map}
-use Rattle.ss_core.specs.declared.names.Place.{Place}
-use Rattle.ss_core.specs.declared.expr.Link.{Link}
-use Rattle.ss_core.specs.declared.expr.Step.{Step}
-use Rattle.ss_core.specs.declared.expr.Expr.TheFolds.{fold-Link, fold-Step}
-use Rattle.ss_core.specs.declared.stmt.Loop.{Loop}
-use Rattle.ss_core.specs.declared.stmt.Stmt.TheFolds.{fold-Loop}
-use Rattle.ss_core.specs.Tree.{ClassTree, StmtTree, ExprTree, DefaultExpr, Full, WordTree, Unowned, OwnersTree, SameOwner, OwnedAt}
-use Rattle.ss_core.specs.View.{Behind, expr_step, link_step, step_step, stmt_step, loop_step}
+use Rattle.ss_core.specs.Tree.{ClassTree, ExprTree, DefaultExpr, Full, WordTree, Unowned, OwnersTree, SameOwner, OwnedAt}
+use Rattle.ss_core.specs.View.{Behind}
+pub use Rattle.ss_core.specs.Parts.{no_place, link_behind, step_behind, loop_of}
 use Rattle.ss_report_names.specs.Names.{class_name}
 use Rattle.ss_report_core.specs.Exprs.{expr_text, word_text}
-
-abbrev pub link_behind : Link → Behind
-link_behind = fold-Link ExprTree Behind Behind expr_step link_step step_step
-
-abbrev pub step_behind : Step → Behind
-step_behind = fold-Step ExprTree Behind Behind expr_step link_step step_step
-
-abbrev pub no_place : Place
-no_place = record { line = 0; column = 0 }
 
 -- an expression without a text
 abbrev pub nothing : ExprTree
@@ -58,7 +43,3 @@ owners_before (OwnedAt t) = codes "Owner.Is("
 abbrev pub owners_behind : List ClassTree → OwnersTree → List ℕ
 owners_behind cs SameOwner = codes ")"
 owners_behind cs (OwnedAt t) = codes ", " ++ class_name cs t ++ codes ")"
-
--- the statement that a loop is
-abbrev pub loop_of : Loop → StmtTree
-loop_of = fold-Loop StmtTree StmtTree stmt_step loop_step

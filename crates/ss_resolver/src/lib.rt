@@ -40,13 +40,12 @@ fn check_limit(alloc: Global, program: &Program, resolved: Typed) -> Result<Type
     ensures { Resolves (program_tree program.now) result }
 {
     let _program = program;
-    match first_limit_fault(alloc, &resolved) {
-        Ok(None) => Ok(resolved),
-        Ok(Some(fault)) => Err(FrontStop::Refused {
+    match first_limit_fault(alloc, &resolved)? {
+        None => Ok(resolved),
+        Some(fault) => Err(FrontStop::Refused {
             rule: fault.rule,
             place: fault.place,
         }),
-        Err(_) => Err(FrontStop::Memory),
     }
 }
 

@@ -44,9 +44,13 @@ pub fn finish(
     match part {
         Part::Name(place, name) => bare_name(context, names, place, name),
         Part::Base(place) => Ok(boxed(context.within.alloc, this(context, place))?),
-        Part::Member(place, _, ty, object, name) => {
-            member(context, place, object, name, number_of(ty))
-        }
+        Part::Member {
+            place,
+            ty,
+            object,
+            name,
+            ..
+        } => { member(context, place, object, name, number_of(ty)) }
         Part::Other(_, value) => Ok(value),
     }
 }
@@ -68,7 +72,12 @@ pub fn called(
             let callee = name_callee(context.within, names.names(), name);
             called_bare(context, place, at, args, callee)
         }
-        Part::Member(_, receiver, _, object, name) => {
+        Part::Member {
+            receiver,
+            object,
+            name,
+            ..
+        } => {
             let callee = member_callee(context.within, name, receiver);
             let call = WrittenCall {
                 place,
@@ -92,7 +101,7 @@ pub fn part_class(
     let _names = names.names();
     match part {
         Part::Name(_, name) => class_id(context.within.tables, name),
-        Part::Base(_) | Part::Member(..) | Part::Other(..) => ClassId(0),
+        Part::Base(_) | Part::Member { .. } | Part::Other(..) => ClassId(0),
     }
 }
 
@@ -110,7 +119,13 @@ pub fn dotted<'p>(
     let receiver = part_receiver(context, names, &before);
     let ty = part_type(context, names, &before);
     let object = finish(context, names, before)?;
-    Ok(Part::Member(place, receiver, ty, object, name.text.as_str()))
+    Ok(Part::Member {
+        place,
+        receiver,
+        ty,
+        object,
+        name: name.text.as_str(),
+    })
 }
 
 /// The static type of a call of it with so many arguments.
@@ -128,7 +143,7 @@ pub fn part_call_type(
             let callee = name_callee(context.within, names.names(), name);
             call_type(tables, called_with(count, callee))
         }
-        Part::Member(_, receiver, _, _, name) => {
+        Part::Member { receiver, name, .. } => {
             let callee = member_callee(context.within, name, *receiver);
             call_type(tables, called_with(count, callee))
         }

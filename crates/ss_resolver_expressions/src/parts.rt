@@ -20,7 +20,13 @@ pub enum Part<'p> {
     /// The word `base`.
     Base(Place),
     /// A member behind a dot: what stands before it, with its static type and its tree.
-    Member(Place, Receiver, Option<StaticType>, Box<TypedExpr>, &'p str),
+    Member {
+        place: Place,
+        receiver: Receiver,
+        ty: Option<StaticType>,
+        object: Box<TypedExpr>,
+        name: &'p str,
+    },
     /// Any other, with its static type and its tree.
     Other(Option<StaticType>, Box<TypedExpr>),
 }
@@ -36,7 +42,7 @@ pub fn part_type(
     match part {
         Part::Name(_, name) => name_type(context.within, names.names(), name),
         Part::Base(_) => None,
-        Part::Member(_, receiver, _, _, name) => read_type(context.within.tables, name, *receiver),
+        Part::Member { receiver, name, .. } => read_type(context.within.tables, name, *receiver),
         Part::Other(ty, _) => *ty,
     }
 }
@@ -55,7 +61,7 @@ pub fn part_receiver(
             name_receiver(context.within, names.names(), name, ty)
         }
         Part::Base(_) => Receiver::Base,
-        Part::Member(_, receiver, _, _, name) => {
+        Part::Member { receiver, name, .. } => {
             Receiver::Value(read_type(context.within.tables, name, *receiver))
         }
         Part::Other(ty, _) => Receiver::Value(*ty),

@@ -1,9 +1,9 @@
 -- What a bare name stands for at a place, with its number.
 use Rattle.std.specs.Prelude.{ℕ, ◌+◌, List, [], ◌∷◌, Option}
+use Rattle.std.specs.Option.{option_or}
 use Rattle.ss_ast.specs.Expressions.{NameTree, TypeTree}
 use Rattle.ss_ast.specs.Statements.{DeclaratorTree, DeclarationTree}
 use Rattle.ss_ast.specs.Programs.{ParamTree, ClassTree}
-use Rattle.ss_tables.specs.Classes.{or_else}
 use Rattle.ss_tables.specs.Named.{Named, named_in, named_among, with_named}
 use Rattle.ss_tables.specs.Scopes.{Scope, class_scope, declare_local, within_quantifier}
 use Rattle.ss_tables.specs.Scopes as scopes
@@ -27,7 +27,7 @@ pub record Env : Type 0 where
 
 -- the innermost scope that has the name decides
 abbrev pub known : Env → List ℕ → Option Known
-known e n = or_else (named_in e.inner n) (named_among e.outer n)
+known e n = option_or (named_in e.inner n) (named_among e.outer n)
 
 -- within a class, where `this` is the local 0 and no other local stands
 abbrev pub class_env : List ClassTree → ℕ → Env

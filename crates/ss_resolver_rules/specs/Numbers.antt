@@ -5,6 +5,7 @@ use Rattle.std.specs.Str.{bytes_eq}
 use Rattle.ss_core.specs.declared.names.Ty.{Ty}
 use Rattle.ss_core.specs.declared.names.Ty.TheVariants as ty
 use Rattle.ss_core.specs.Tree.{EntryTree}
+pub use Rattle.ss_core.specs.Chain.{names_of}
 use Rattle.ss_ast.specs.Expressions.{NameTree, TypeTree, TypeNameTree}
 use Rattle.ss_ast.specs.Programs.{MemberTree, ClassTree}
 use Rattle.ss_resolver_names_rules.specs.Faults.{is_listed}
@@ -67,9 +68,6 @@ abbrev pub method_id : List ClassTree → ℕ → List ℕ → ℕ
 method_id cs k n = constructor_id cs k + (length (constructors_in (members_at cs k)) + method_place (members_at cs k) n)
 
 -- ---- tables of methods
-
-abbrev pub names_of : List EntryTree → List (List ℕ)
-names_of es = map (λ (e : EntryTree). e.name) es
 
 abbrev pub method_names : List MemberTree → List (List ℕ)
 method_names ms = map (λ (m : MethodTree). m.name.text) (methods_in ms)

@@ -56,7 +56,7 @@ fn kind_of(part: &Part<'_>) -> Alone
 {
     match part {
         Part::Base(_) => Alone::Base,
-        Part::Member(_, receiver, _, _, name) => kind_behind(*receiver, name),
+        Part::Member { receiver, name, .. } => kind_behind(*receiver, name),
         Part::Name(..) | Part::Other(..) => Alone::Call,
     }
 }

@@ -144,9 +144,9 @@ fn go_on(
     closed_rounds(context, bank, &mut begun.listed, &mut made, rounds)
 }
 
-/// The ground form of an obligation after so many rounds, and where each formula of it comes from. None where it has more formulas than the context's limit.
-/// Where the premises and the goal are well formed, the lines that make the choices are steps of a derivation. An error is want of memory; what the
-/// bank had before stays.
+/// The ground form of an obligation after so many rounds, and where each formula of it comes from. None where it has more formulas than
+/// the context's limit. Where the premises and the goal are well formed, the lines that make the choices are steps of a derivation. An
+/// error is want of memory; what the bank had before stays.
 pub fn ground_with_origins(
     context: &GroundContext<'_>,
     bank: &mut Bank,
@@ -181,8 +181,8 @@ pub fn ground_with_origins(
     }))
 }
 
-/// The ground form of an obligation after so many rounds, where it has no more formulas than the context's limit. An error is want of memory; what the
-/// bank had before stays.
+/// The ground form of an obligation after so many rounds, where it has no more formulas than the context's limit. An error is want of
+/// memory; what the bank had before stays.
 pub fn ground(
     context: &GroundContext<'_>,
     bank: &mut Bank,

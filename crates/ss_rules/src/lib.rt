@@ -1,4 +1,4 @@
-//! Instances of rules, and the ground forms of obligations, over the bank of terms and formulas of a program: what is asked for is made and added,
+//! Instances of rules, and the ground forms of obligations, over the bank of terms and formulas of a program. What is asked for is made and added,
 //! round by round.
 #![tactic(auto)]
 

@@ -30,7 +30,7 @@ pub struct Made {
 }
 
 impl Made {
-    /// None.
+    /// No instances.
     pub fn new(alloc: Global) -> Made
         ensures { (cs : List ClassTree) (b : Forms) → AreMade cs b result }
     {

@@ -66,8 +66,8 @@ pub fn ground(
     }
 }
 
-/// The same, and where each formula comes from. Where the premises and the goal are well formed, the lines that make the choices are steps
-/// of a derivation.
+/// What `ground` makes, and where each formula comes from. Where the premises and the goal are well formed, the lines that make the choices
+/// are steps of a derivation.
 pub fn ground_with_origins(
     alloc: Global,
     bank: &mut Bank,

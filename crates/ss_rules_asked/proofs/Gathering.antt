@@ -9,6 +9,7 @@ use Rattle.ss_logic.specs.Asked as spec
 use Rattle.ss_terms.specs.declared.forms.TermId.{TermId}
 use Rattle.ss_terms.specs.declared.forms.FormulaId.{FormulaId}
 use Rattle.ss_terms.specs.Forms.{Forms, term_at, terms_at, formula_at, formulas_at, HasTerm, HasTerms, AreTermsBelow}
+use Rattle.ss_terms.proofs.Longer.{HasTerms-push}
 use Rattle.ss_rules_asked.specs.declared.forms.Reading.{Reading}
 use Rattle.ss_rules_asked.specs.declared.forms.Counts.{Counts}
 use Rattle.ss_rules_asked.specs.Readings.{reading_at, readings_at, counts_at, all_counts_at, HasReading, HasReadings, HasCount, HasCounts, AreReadings, AreCounts, AreTerms, IsReading, IsCount}
@@ -36,10 +37,6 @@ HasReadings-push b (x ∷ rs) r h k = (h.0, HasReadings-push b rs r h.1 k)
 HasCounts-push : (b : Forms) (cs : List Counts) (c : Counts) → HasCounts b cs → HasCount b c → HasCounts b (cs ++ c ∷ [])
 HasCounts-push b [] c h k = (k, tt)
 HasCounts-push b (x ∷ cs) c h k = (h.0, HasCounts-push b cs c h.1 k)
-
-HasTerms-push : (b : Forms) (ts : List TermId) (t : TermId) → HasTerms b ts → HasTerm b t → HasTerms b (ts ++ t ∷ [])
-HasTerms-push b [] t h k = (k, tt)
-HasTerms-push b (x ∷ ts) t h k = (h.0, HasTerms-push b ts t h.1 k)
 
 pub HasReadings-get : (b : Forms) (rs : List Reading) (i : ℕ) (d : Reading) → HasReadings b rs → i < length rs → HasReading b (get_or rs i d)
 HasReadings-get b [] i d h at = absurd (omega arith)

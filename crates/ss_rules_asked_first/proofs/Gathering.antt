@@ -6,6 +6,7 @@ use Rattle.ss_logic.specs.Terms.{Term, terms_from}
 use Rattle.ss_logic.specs.Asked as spec
 use Rattle.ss_terms.specs.declared.forms.TermId.{TermId}
 use Rattle.ss_terms.specs.Forms.{Forms, term_at, terms_at, HasTerm, HasTerms}
+use Rattle.ss_terms.proofs.Longer.{HasTerms-push}
 use Rattle.ss_rules_asked.specs.Readings.{IsOne, AreTerms}
 use Rattle.ss_rules_asked.proofs.Gathering.{gathered}
 use Rattle.ss_rules_asked_first.specs.declared.owners.Owner.{Owner}
@@ -57,10 +58,6 @@ owners_next items i d b ps more p within before is next = record {
 }
 
 -- ---- terms
-
-HasTerms-push : (b : Forms) (ts : List TermId) (t : TermId) → HasTerms b ts → HasTerm b t → HasTerms b (ts ++ t ∷ [])
-HasTerms-push b [] t h k = (k, tt)
-HasTerms-push b (x ∷ ts) t h k = (h.0, HasTerms-push b ts t h.1 k)
 
 term_pushed : (b : Forms) (ts more : List TermId) (t : TermId) → more ≡ ts ++ t ∷ [] → HasTerms b ts → HasTerm b t → AreTerms b more (terms_at b ts ++ term_at b t ∷ [])
 term_pushed b ts more t e h k = record { has = subst (HasTerms b) (sym e) (HasTerms-push b ts t h k); are = ap (terms_at b) e ∙ map_push (term_at b) ts t }

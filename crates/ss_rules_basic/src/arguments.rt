@@ -5,7 +5,9 @@ ghost use Rattle.ss_logic.specs.Terms.{App, Number, Null, ClassName, terms_from}
 ghost use Rattle.ss_logic.specs.Shapes.{literal_of, natural, natural_of, class_of_term};
 ghost use Rattle.ss_logic.specs.Rules.{is_class_term, store_before};
 ghost use Rattle.ss_terms.specs.Forms.{symbol_of, term_at, terms_at, HasTerm, HasTerms};
-ghost use Rattle.ss_rules_basic.specs.Arguments.{IsTermOf, ArePartsOf, is_null_term, store_of_next, is_pair, parts_of, one_of, two_of};
+ghost use Rattle.ss_rules_basic.specs.Arguments.{is_null_term, store_of_next, parts_of};
+ghost use Rattle.ss_terms.specs.Numbered.{IsTermOf, ArePartsOf, one_of, two_of};
+ghost use Rattle.ss_logic.specs.Asked.{is_pair};
 
 use ss_terms::{Bank, Symbol, Term, TermId};
 
@@ -153,7 +155,7 @@ fn null_alone(b: &Bank, ts: &[TermId]) -> bool
 }
 
 /// The term, where there is one alone.
-fn one(ts: &[TermId]) -> Option<TermId>
+pub fn one(ts: &[TermId]) -> Option<TermId>
     ensures { result ≡ one_of ts.now }
 {
     match ts {
@@ -163,7 +165,7 @@ fn one(ts: &[TermId]) -> Option<TermId>
 }
 
 /// The two terms, where there are so many.
-fn two(ts: &[TermId]) -> Option<(TermId, TermId)>
+pub fn two(ts: &[TermId]) -> Option<(TermId, TermId)>
     ensures { result ≡ two_of ts.now }
 {
     match ts {

@@ -6,7 +6,7 @@ ghost use Rattle.ss_core.specs.View as view;
 ghost use Rattle.ss_logic.specs.Shapes.{sub_atom};
 ghost use Rattle.ss_logic.specs.Rules.{class_fact, class_above, class_apart, class_pair, class_up, class_two, stands_beside, are_unrelated, class_of};
 ghost use Rattle.ss_terms.specs.Forms.{term_at, terms_at, formula_at, HasTerm, HasTerms, HasFormula, IsGrown, IsBankOf};
-ghost use Rattle.ss_rules_basic.specs.Arguments.{IsInstance};
+ghost use Rattle.ss_terms.specs.Numbered.{IsNumberOf};
 
 use crate::arguments::{class_name, is_class};
 use crate::{Claim, Clause, Plan, Slot, fill};
@@ -148,7 +148,7 @@ fn class_one(
 ) -> Result<Option<FormulaId>, AllocError>
     requires bank { IsBankOf (view.classes classes.now) b.old }
     requires term { HasTerm b.old x }
-    ensures at { IfOk result (λ o. IsInstance b.new o (class_of (view.classes classes.now) number (term_at b.old x ∷ []))) }
+    ensures at { IfOk result (λ o. IsNumberOf b.new o (class_of (view.classes classes.now) number (term_at b.old x ∷ []))) }
     ensures grown { IsGrown b.old b.new }
 {
     let _ = classes;
@@ -169,7 +169,7 @@ fn class_names(
 ) -> Result<Option<FormulaId>, AllocError>
     requires left { HasTerm b.old x }
     requires right { HasTerm b.old t }
-    ensures at { IfOk result (λ o. IsInstance b.new o (class_pair (view.classes classes.now) (class_of_term (term_at b.old x)) (class_of_term (term_at b.old t)))) }
+    ensures at { IfOk result (λ o. IsNumberOf b.new o (class_pair (view.classes classes.now) (class_of_term (term_at b.old x)) (class_of_term (term_at b.old t)))) }
     ensures grown { IsGrown b.old b.new }
 {
     let Some(c) = class_name(b, x) else {
@@ -196,7 +196,7 @@ fn class_pairs(
     requires bank { IsBankOf (view.classes classes.now) b.old }
     requires left { HasTerm b.old x }
     requires right { HasTerm b.old t }
-    ensures at { IfOk result (λ o. IsInstance b.new o (class_of (view.classes classes.now) number (term_at b.old x ∷ term_at b.old t ∷ []))) }
+    ensures at { IfOk result (λ o. IsNumberOf b.new o (class_of (view.classes classes.now) number (term_at b.old x ∷ term_at b.old t ∷ []))) }
     ensures grown { IsGrown b.old b.new }
 {
     if number == 0 {
@@ -228,7 +228,7 @@ fn class_three(
     requires term { HasTerm b.old x }
     requires first { HasTerm b.old names.0 }
     requires second { HasTerm b.old names.1 }
-    ensures at { IfOk result (λ o. IsInstance b.new o (class_of (view.classes classes.now) number (term_at b.old x ∷ term_at b.old names.0 ∷ term_at b.old names.1 ∷ []))) }
+    ensures at { IfOk result (λ o. IsNumberOf b.new o (class_of (view.classes classes.now) number (term_at b.old x ∷ term_at b.old names.0 ∷ term_at b.old names.1 ∷ []))) }
     ensures grown { IsGrown b.old b.new }
 {
     if number != 2 || !b.have_sorts(&[Sort::Rest], &[x]) {
@@ -257,7 +257,7 @@ pub fn class_rule(
 ) -> Result<Option<FormulaId>, AllocError>
     requires bank { IsBankOf (view.classes classes.now) b.old }
     requires arguments { HasTerms b.old arguments.now }
-    ensures at { IfOk result (λ o. IsInstance b.new o (class_of (view.classes classes.now) number (terms_at b.old arguments.now))) }
+    ensures at { IfOk result (λ o. IsNumberOf b.new o (class_of (view.classes classes.now) number (terms_at b.old arguments.now))) }
     ensures grown { IsGrown b.old b.new }
 {
     match arguments {

@@ -4,7 +4,7 @@ ghost use Rattle.std.specs.Prelude.{◌≡◌, List, [], ◌∷◌, IfOk, option
 ghost use Rattle.ss_core.specs.Tree.{ClassTree};
 ghost use Rattle.ss_logic.specs.Rules.{next_is_new, new_is_grouped, group_is_new, store_before, fresh_of};
 ghost use Rattle.ss_terms.specs.Forms.{term_at, terms_at, formula_at, HasTerm, HasTerms, HasFormula, IsGrown, IsBankOf};
-ghost use Rattle.ss_rules_basic.specs.Arguments.{IsInstance};
+ghost use Rattle.ss_terms.specs.Numbered.{IsNumberOf};
 
 use crate::arguments::before_new;
 use crate::{Claim, Clause, Plan, Slot, fill};
@@ -86,7 +86,7 @@ fn fresh_store(
     s: TermId,
 ) -> Result<Option<FormulaId>, AllocError>
     requires { HasTerm b.old s }
-    ensures at { (cs : List ClassTree) → IsBankOf cs b.old → IfOk result (λ o. IsInstance b.new o (fresh_of cs number (term_at b.old s ∷ []))) }
+    ensures at { (cs : List ClassTree) → IsBankOf cs b.old → IfOk result (λ o. IsNumberOf b.new o (fresh_of cs number (term_at b.old s ∷ []))) }
     ensures grown { IsGrown b.old b.new }
 {
     if !b.have_sorts(&[Sort::Store], &[s]) {
@@ -116,7 +116,7 @@ fn fresh_object(
 ) -> Result<Option<FormulaId>, AllocError>
     requires store { HasTerm b.old s }
     requires object { HasTerm b.old o }
-    ensures at { (cs : List ClassTree) → IsBankOf cs b.old → IfOk result (λ r. IsInstance b.new r (fresh_of cs number (term_at b.old s ∷ term_at b.old o ∷ []))) }
+    ensures at { (cs : List ClassTree) → IsBankOf cs b.old → IfOk result (λ r. IsNumberOf b.new r (fresh_of cs number (term_at b.old s ∷ term_at b.old o ∷ []))) }
     ensures grown { IsGrown b.old b.new }
 {
     if number != 2 || !b.have_sorts(&[Sort::Store, Sort::Rest], &[s, o]) {
@@ -137,7 +137,7 @@ pub fn fresh_rule(
     arguments: &[TermId],
 ) -> Result<Option<FormulaId>, AllocError>
     requires { HasTerms b.old arguments.now }
-    ensures at { (cs : List ClassTree) → IsBankOf cs b.old → IfOk result (λ o. IsInstance b.new o (fresh_of cs number (terms_at b.old arguments.now))) }
+    ensures at { (cs : List ClassTree) → IsBankOf cs b.old → IfOk result (λ o. IsNumberOf b.new o (fresh_of cs number (terms_at b.old arguments.now))) }
     ensures grown { IsGrown b.old b.new }
 {
     match arguments {

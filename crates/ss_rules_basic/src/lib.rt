@@ -13,7 +13,7 @@ mod plans;
 mod sentences;
 mod values;
 
-pub use arguments::{class_name, is_null, literal, natural, next_store};
+pub use arguments::{class_name, is_null, literal, natural, next_store, one, two};
 pub use classes::class_rule;
 pub use clauses::{Claim, Clause, fill};
 pub use facts::Fact;

@@ -6,7 +6,7 @@ ghost use Rattle.ss_logic.specs.Formulas.{neg};
 ghost use Rattle.ss_logic.specs.Shapes.{group};
 ghost use Rattle.ss_logic.specs.Rules.{pairs_agree, split_of};
 ghost use Rattle.ss_terms.specs.Forms.{term_at, terms_at, formula_at, HasTerm, HasTerms, HasFormula, IsGrown, IsBankOf};
-ghost use Rattle.ss_rules_basic.specs.Arguments.{IsInstance};
+ghost use Rattle.ss_terms.specs.Numbered.{IsNumberOf};
 
 use crate::arguments::{is_pair_at, pair_parts};
 use crate::{Claim, Clause, Slot, fill};
@@ -66,7 +66,7 @@ fn split_one(
     p: TermId,
 ) -> Result<Option<FormulaId>, AllocError>
     requires { HasTerm b.old p }
-    ensures at { (cs : List ClassTree) → IsBankOf cs b.old → IfOk result (λ o. IsInstance b.new o (split_of cs number (term_at b.old p ∷ []))) }
+    ensures at { (cs : List ClassTree) → IsBankOf cs b.old → IfOk result (λ o. IsNumberOf b.new o (split_of cs number (term_at b.old p ∷ []))) }
     ensures grown { IsGrown b.old b.new }
 {
     if !is_pair_at(b, p) || number != 0 || !b.have_sorts(&[Sort::Rest], &[p]) {
@@ -86,7 +86,7 @@ fn split_two(
 ) -> Result<Option<FormulaId>, AllocError>
     requires left { HasTerm b.old p }
     requires right { HasTerm b.old q }
-    ensures at { (cs : List ClassTree) → IsBankOf cs b.old → IfOk result (λ o. IsInstance b.new o (split_of cs number (term_at b.old p ∷ term_at b.old q ∷ []))) }
+    ensures at { (cs : List ClassTree) → IsBankOf cs b.old → IfOk result (λ o. IsNumberOf b.new o (split_of cs number (term_at b.old p ∷ term_at b.old q ∷ []))) }
     ensures grown { IsGrown b.old b.new }
 {
     let Some(left) = pair_parts(b, p) else {
@@ -113,7 +113,7 @@ pub fn split_rule(
     arguments: &[TermId],
 ) -> Result<Option<FormulaId>, AllocError>
     requires { HasTerms b.old arguments.now }
-    ensures at { (cs : List ClassTree) → IsBankOf cs b.old → IfOk result (λ o. IsInstance b.new o (split_of cs number (terms_at b.old arguments.now))) }
+    ensures at { (cs : List ClassTree) → IsBankOf cs b.old → IfOk result (λ o. IsNumberOf b.new o (split_of cs number (terms_at b.old arguments.now))) }
     ensures grown { IsGrown b.old b.new }
 {
     match arguments {

@@ -4,7 +4,7 @@ ghost use Rattle.std.specs.Prelude.{◌≡◌, ◌≢◌, ◌-◌, pos, neg_ℤ,
 ghost use Rattle.ss_core.specs.Tree.{ClassTree};
 ghost use Rattle.ss_logic.specs.Rules.{three_ways, two_valued, division, apart_of, bool_of, quorem_of};
 ghost use Rattle.ss_terms.specs.Forms.{term_at, terms_at, formula_at, HasTerm, HasTerms, HasFormula, IsGrown, IsBankOf};
-ghost use Rattle.ss_rules_basic.specs.Arguments.{IsInstance};
+ghost use Rattle.ss_terms.specs.Numbered.{IsNumberOf};
 
 use crate::arguments::literal;
 use crate::{Claim, Clause, Plan, Slot, fill};
@@ -40,7 +40,7 @@ pub fn apart_rule(
     arguments: &[TermId],
 ) -> Result<Option<FormulaId>, AllocError>
     requires { HasTerms b.old arguments.now }
-    ensures at { (cs : List ClassTree) → IsBankOf cs b.old → IfOk result (λ o. IsInstance b.new o (apart_of cs (terms_at b.old arguments.now))) }
+    ensures at { (cs : List ClassTree) → IsBankOf cs b.old → IfOk result (λ o. IsNumberOf b.new o (apart_of cs (terms_at b.old arguments.now))) }
     ensures grown { IsGrown b.old b.new }
 {
     let [x, y] = arguments else {
@@ -114,7 +114,7 @@ pub fn quorem_rule(
     arguments: &[TermId],
 ) -> Result<Option<FormulaId>, AllocError>
     requires { HasTerms b.old arguments.now }
-    ensures at { (cs : List ClassTree) → IsBankOf cs b.old → IfOk result (λ o. IsInstance b.new o (quorem_of cs (terms_at b.old arguments.now))) }
+    ensures at { (cs : List ClassTree) → IsBankOf cs b.old → IfOk result (λ o. IsNumberOf b.new o (quorem_of cs (terms_at b.old arguments.now))) }
     ensures grown { IsGrown b.old b.new }
 {
     let [x, y] = arguments else {
@@ -158,7 +158,7 @@ pub fn bool_rule(
     arguments: &[TermId],
 ) -> Result<Option<FormulaId>, AllocError>
     requires { HasTerms b.old arguments.now }
-    ensures at { (cs : List ClassTree) → IsBankOf cs b.old → IfOk result (λ o. IsInstance b.new o (bool_of cs (terms_at b.old arguments.now))) }
+    ensures at { (cs : List ClassTree) → IsBankOf cs b.old → IfOk result (λ o. IsNumberOf b.new o (bool_of cs (terms_at b.old arguments.now))) }
     ensures grown { IsGrown b.old b.new }
 {
     let [x] = arguments else {

@@ -9,7 +9,7 @@ ghost use Rattle.ss_logic.specs.Terms.{app};
 ghost use Rattle.ss_logic.specs.Shapes.{all_of, allocated};
 ghost use Rattle.ss_logic.specs.Good.{arrays_of_references, element_typed, in_range, typed_element};
 ghost use Rattle.ss_terms.specs.Forms.{term_at, formula_at, formulas_at, HasTerm, HasFormula, HasFormulas, IsGrown};
-ghost use Rattle.ss_rules_basic.specs.Arguments.{IsInstance};
+ghost use Rattle.ss_terms.specs.Numbered.{IsNumberOf};
 ghost use Rattle.ss_rules_good.specs.Fields.{element_of, element_allocated};
 
 use ss_core::Classes;
@@ -177,7 +177,7 @@ pub(crate) fn typed_element_at(
     requires store { HasTerm b.old place.0 }
     requires array { HasTerm b.old place.1 }
     requires index { HasTerm b.old place.2 }
-    ensures at { IfOk result (λ r. IsInstance b.new r (typed_element (view.classes classes.now) (term_at b.old place.0) (term_at b.old place.1) (term_at b.old place.2) sort)) }
+    ensures at { IfOk result (λ r. IsNumberOf b.new r (typed_element (view.classes classes.now) (term_at b.old place.0) (term_at b.old place.1) (term_at b.old place.2) sort)) }
     ensures grown { IsGrown b.old b.new }
 {
     match sort {

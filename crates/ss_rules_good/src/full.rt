@@ -4,7 +4,7 @@ ghost use Rattle.std.specs.Prelude.{◌≡◌, List, IfOk};
 ghost use Rattle.ss_core.specs.Tree.{ClassTree};
 ghost use Rattle.ss_logic.specs.Good.{full_level, full_of};
 ghost use Rattle.ss_terms.specs.Forms.{term_at, terms_at, formula_at, HasTerm, HasTerms, HasFormula, IsGrown, IsBankOf};
-ghost use Rattle.ss_rules_basic.specs.Arguments.{IsInstance};
+ghost use Rattle.ss_terms.specs.Numbered.{IsNumberOf};
 
 use ss_logic::Sort;
 use ss_rules_basic::{Claim, Clause, Plan, Slot, fill};
@@ -37,7 +37,7 @@ pub(crate) fn full_rule(
 ) -> Result<Option<FormulaId>, AllocError>
     requires store { HasTerm b.old s }
     requires arguments { HasTerms b.old arguments.now }
-    ensures at { (cs : List ClassTree) → IsBankOf cs b.old → IfOk result (λ r. IsInstance b.new r (full_of cs (term_at b.old s) (terms_at b.old arguments.now))) }
+    ensures at { (cs : List ClassTree) → IsBankOf cs b.old → IfOk result (λ r. IsNumberOf b.new r (full_of cs (term_at b.old s) (terms_at b.old arguments.now))) }
     ensures grown { IsGrown b.old b.new }
 {
     let [o] = arguments else {

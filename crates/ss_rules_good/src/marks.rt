@@ -4,11 +4,11 @@ ghost use Rattle.std.specs.Prelude.{◌≡◌, ◌≤◌, ◌^◌, length, IfOk}
 ghost use Rattle.ss_core.specs.Chain.{most_classes, all_fields};
 ghost use Rattle.ss_core.specs.View as view;
 ghost use Rattle.ss_store_rules.specs.Changes.{field_mark, field_type};
-ghost use Rattle.ss_logic.specs.Good.{is_reference_type, marked, marks_of};
+ghost use Rattle.ss_logic.specs.Good.{marked, marks_of};
 ghost use Rattle.ss_terms.specs.Forms.{term_at, terms_at, HasTerm, HasTerms, IsGrown, IsBankOf};
-ghost use Rattle.ss_rules_basic.specs.Arguments.{IsInstance};
+ghost use Rattle.ss_terms.specs.Numbered.{IsNumberOf};
 
-use ss_core::{Classes, Mark, Ty};
+use ss_core::{Classes, Mark, is_class_type};
 use ss_logic::Sort;
 use ss_rules_basic::{
     Claim, Clause, Plan, Slot, class_of_field, field_named, fill, mark_of_field, type_of_field,
@@ -28,7 +28,7 @@ fn marked_at(
     requires classes { length (view.classes classes.now) ≤ most_classes }
     requires store { HasTerm b.old s }
     requires object { HasTerm b.old o }
-    ensures at { IfOk result (λ r. IsInstance b.new r (marked (view.classes classes.now) (term_at b.old s) (term_at b.old o) f (field_mark (view.classes classes.now) f))) }
+    ensures at { IfOk result (λ r. IsNumberOf b.new r (marked (view.classes classes.now) (term_at b.old s) (term_at b.old o) f (field_mark (view.classes classes.now) f))) }
     ensures grown { IsGrown b.old b.new }
 {
     let owner = match mark_of_field(classes, f) {
@@ -56,16 +56,6 @@ fn marked_at(
     Ok(Some(r))
 }
 
-// Whether the type is one of references.
-fn is_reference(ty: Ty) -> bool
-    ensures { result ≡ is_reference_type ty }
-{
-    match ty {
-        Ty::Ref { .. } => true,
-        _ => false,
-    }
-}
-
 // The rule on marked fields.
 pub(crate) fn marks_rule(
     alloc: Global,
@@ -79,7 +69,7 @@ pub(crate) fn marks_rule(
     requires fields { length (all_fields (view.classes classes.now)) ≤ 2 ^ 32 }
     requires store { HasTerm b.old s }
     requires arguments { HasTerms b.old arguments.now }
-    ensures at { IfOk result (λ r. IsInstance b.new r (marks_of (view.classes classes.now) (term_at b.old s) (terms_at b.old arguments.now))) }
+    ensures at { IfOk result (λ r. IsNumberOf b.new r (marks_of (view.classes classes.now) (term_at b.old s) (terms_at b.old arguments.now))) }
     ensures grown { IsGrown b.old b.new }
 {
     let [o, f] = arguments else {
@@ -88,7 +78,7 @@ pub(crate) fn marks_rule(
     let Some(f) = field_named(b, classes, *f) else {
         return Ok(None);
     };
-    if !is_reference(type_of_field(classes, f)) || !b.have_sorts(&[Sort::Rest], &[*o]) {
+    if !is_class_type(type_of_field(classes, f)) || !b.have_sorts(&[Sort::Rest], &[*o]) {
         return Ok(None);
     }
     marked_at(alloc, b, classes, s, *o, f)

@@ -4,7 +4,7 @@ ghost use Rattle.std.specs.Prelude.{◌≡◌, List, [], ◌∷◌, IfOk};
 ghost use Rattle.ss_core.specs.Tree.{ClassTree};
 ghost use Rattle.ss_logic.specs.Good.{grouped_uncommitted, owned_committed, owned_by_number, owned_of};
 ghost use Rattle.ss_terms.specs.Forms.{term_at, terms_at, formula_at, HasTerm, HasTerms, HasFormula, IsGrown, IsBankOf};
-ghost use Rattle.ss_rules_basic.specs.Arguments.{IsInstance};
+ghost use Rattle.ss_terms.specs.Numbered.{IsNumberOf};
 
 use ss_logic::Sort;
 use ss_rules_basic::{Claim, Clause, Plan, Slot, fill, natural};
@@ -78,7 +78,7 @@ fn owned_one(
 ) -> Result<Option<FormulaId>, AllocError>
     requires store { HasTerm b.old s }
     requires object { HasTerm b.old p }
-    ensures at { (cs : List ClassTree) → IsBankOf cs b.old → IfOk result (λ r. IsInstance b.new r (owned_by_number cs (term_at b.old s) number (term_at b.old p ∷ []))) }
+    ensures at { (cs : List ClassTree) → IsBankOf cs b.old → IfOk result (λ r. IsNumberOf b.new r (owned_by_number cs (term_at b.old s) number (term_at b.old p ∷ []))) }
     ensures grown { IsGrown b.old b.new }
 {
     if number != 1 || !b.have_sorts(&[Sort::Rest], &[p]) {
@@ -101,7 +101,7 @@ fn owned_three(
     requires object { HasTerm b.old p }
     requires owner { HasTerm b.old owner.0 }
     requires class { HasTerm b.old owner.1 }
-    ensures at { (cs : List ClassTree) → IsBankOf cs b.old → IfOk result (λ r. IsInstance b.new r (owned_by_number cs (term_at b.old s) number (term_at b.old p ∷ term_at b.old owner.0 ∷ term_at b.old owner.1 ∷ []))) }
+    ensures at { (cs : List ClassTree) → IsBankOf cs b.old → IfOk result (λ r. IsNumberOf b.new r (owned_by_number cs (term_at b.old s) number (term_at b.old p ∷ term_at b.old owner.0 ∷ term_at b.old owner.1 ∷ []))) }
     ensures grown { IsGrown b.old b.new }
 {
     let (o, t) = owner;
@@ -122,7 +122,7 @@ fn owned_numbered(
 ) -> Result<Option<FormulaId>, AllocError>
     requires store { HasTerm b.old s }
     requires arguments { HasTerms b.old arguments.now }
-    ensures at { (cs : List ClassTree) → IsBankOf cs b.old → IfOk result (λ r. IsInstance b.new r (owned_by_number cs (term_at b.old s) number (terms_at b.old arguments.now))) }
+    ensures at { (cs : List ClassTree) → IsBankOf cs b.old → IfOk result (λ r. IsNumberOf b.new r (owned_by_number cs (term_at b.old s) number (terms_at b.old arguments.now))) }
     ensures grown { IsGrown b.old b.new }
 {
     match arguments {
@@ -141,7 +141,7 @@ pub(crate) fn owned_rule(
 ) -> Result<Option<FormulaId>, AllocError>
     requires store { HasTerm b.old s }
     requires arguments { HasTerms b.old arguments.now }
-    ensures at { (cs : List ClassTree) → IsBankOf cs b.old → IfOk result (λ r. IsInstance b.new r (owned_of cs (term_at b.old s) (terms_at b.old arguments.now))) }
+    ensures at { (cs : List ClassTree) → IsBankOf cs b.old → IfOk result (λ r. IsNumberOf b.new r (owned_of cs (term_at b.old s) (terms_at b.old arguments.now))) }
     ensures grown { IsGrown b.old b.new }
 {
     let [number, rest @ ..] = arguments else {

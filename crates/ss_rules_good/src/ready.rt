@@ -7,7 +7,7 @@ ghost use Rattle.ss_logic.specs.Reads.{is_look};
 ghost use Rattle.ss_logic.specs.Good.{ready_look, ready_of, ready_field};
 ghost use Rattle.ss_store_rules.specs.Changes.{field_type};
 ghost use Rattle.ss_terms.specs.Forms.{term_at, terms_at, HasTerm, HasTerms, IsGrown, IsBankOf};
-ghost use Rattle.ss_rules_basic.specs.Arguments.{IsInstance};
+ghost use Rattle.ss_terms.specs.Numbered.{IsNumberOf};
 ghost use Rattle.ss_rules_basic.specs.Looks.{look_in, HasLook};
 
 use ss_core::{Classes, Ty};
@@ -30,7 +30,7 @@ fn ready_field_at(
     requires classes { length (view.classes classes.now) ≤ most_classes }
     requires store { HasTerm b.old s }
     requires object { HasTerm b.old o }
-    ensures at { IfOk result (λ r. IsInstance b.new r (ready_field (view.classes classes.now) (term_at b.old s) (term_at b.old o) f (field_type (view.classes classes.now) f))) }
+    ensures at { IfOk result (λ r. IsNumberOf b.new r (ready_field (view.classes classes.now) (term_at b.old s) (term_at b.old o) f (field_type (view.classes classes.now) f))) }
     ensures grown { IsGrown b.old b.new }
 {
     let Ty::Ref { non_null, .. } = type_of_field(classes, f) else {
@@ -70,7 +70,7 @@ fn ready_element(
     requires store { HasTerm b.old s }
     requires array { HasTerm b.old a }
     requires index { HasTerm b.old i }
-    ensures at { IfOk result (λ r. IsInstance b.new r (Some (element_ready (term_at b.old s) (term_at b.old a) (term_at b.old i)))) }
+    ensures at { IfOk result (λ r. IsNumberOf b.new r (Some (element_ready (term_at b.old s) (term_at b.old a) (term_at b.old i)))) }
     ensures grown { IsGrown b.old b.new }
 {
     let (s, a, i) = (Slot::Known(s), Slot::Known(a), Slot::Known(i));
@@ -100,7 +100,7 @@ fn ready_read(
     requires classes { length (view.classes classes.now) ≤ most_classes }
     requires store { HasTerm b.old s }
     requires look { HasLook b.old look }
-    ensures at { IfOk result (λ r. IsInstance b.new r (ready_look (view.classes classes.now) (term_at b.old s) (look_in b.old look))) }
+    ensures at { IfOk result (λ r. IsNumberOf b.new r (ready_look (view.classes classes.now) (term_at b.old s) (look_in b.old look))) }
     ensures grown { IsGrown b.old b.new }
 {
     match look {
@@ -123,7 +123,7 @@ pub(crate) fn ready_rule(
     requires fields { length (all_fields (view.classes classes.now)) ≤ 2 ^ 32 }
     requires store { HasTerm b.old s }
     requires arguments { HasTerms b.old arguments.now }
-    ensures at { IfOk result (λ r. IsInstance b.new r (ready_of (view.classes classes.now) (term_at b.old s) (terms_at b.old arguments.now))) }
+    ensures at { IfOk result (λ r. IsNumberOf b.new r (ready_of (view.classes classes.now) (term_at b.old s) (terms_at b.old arguments.now))) }
     ensures grown { IsGrown b.old b.new }
 {
     match arguments {
@@ -147,7 +147,7 @@ fn ready_named(
     requires store { HasTerm b.old s }
     requires kind { HasTerm b.old kind }
     requires arguments { HasTerms b.old arguments.now }
-    ensures at { IfOk result (λ r. IsInstance b.new r (good.ready_read (view.classes classes.now) (term_at b.old s) (look_from (term_at b.old kind) (terms_at b.old arguments.now)))) }
+    ensures at { IfOk result (λ r. IsNumberOf b.new r (good.ready_read (view.classes classes.now) (term_at b.old s) (look_from (term_at b.old kind) (terms_at b.old arguments.now)))) }
     ensures grown { IsGrown b.old b.new }
 {
     match read_named(b, classes, kind, arguments) {

@@ -5,7 +5,7 @@ ghost use Rattle.ss_core.specs.Chain.{most_classes, all_fields};
 ghost use Rattle.ss_core.specs.View as view;
 ghost use Rattle.ss_logic.specs.GoodRules.{good_sentence, good_instance_of};
 ghost use Rattle.ss_terms.specs.Forms.{term_at, terms_at, HasTerm, HasTerms, IsGrown, IsBankOf};
-ghost use Rattle.ss_rules_basic.specs.Arguments.{IsInstance};
+ghost use Rattle.ss_terms.specs.Numbered.{IsNumberOf};
 
 use crate::full::full_rule;
 use crate::marks::marks_rule;
@@ -31,7 +31,7 @@ fn sentence(
     requires fields { length (all_fields (view.classes classes.now)) ≤ 2 ^ 32 }
     requires store { HasTerm b.old store }
     requires arguments { HasTerms b.old arguments.now }
-    ensures at { IfOk result (λ r. IsInstance b.new r (good_sentence (view.classes classes.now) rule (term_at b.old store) (terms_at b.old arguments.now))) }
+    ensures at { IfOk result (λ r. IsNumberOf b.new r (good_sentence (view.classes classes.now) rule (term_at b.old store) (terms_at b.old arguments.now))) }
     ensures grown { IsGrown b.old b.new }
 {
     match rule {
@@ -57,7 +57,7 @@ pub fn good_sentence_at(
     requires fields { length (all_fields (view.classes classes.now)) ≤ 2 ^ 32 }
     requires store { HasTerm b.old store }
     requires arguments { HasTerms b.old arguments.now }
-    ensures at { IfOk result (λ r. IsInstance b.new r (good_instance_of (view.classes classes.now) rule (term_at b.old store) (terms_at b.old arguments.now))) }
+    ensures at { IfOk result (λ r. IsNumberOf b.new r (good_instance_of (view.classes classes.now) rule (term_at b.old store) (terms_at b.old arguments.now))) }
     ensures grown { IsGrown b.old b.new }
 {
     if !b.have_sorts(&[Sort::Store], &[store]) {

@@ -12,7 +12,7 @@ ghost use Rattle.ss_logic.specs.Reads.{look_from, is_look};
 ghost use Rattle.ss_logic.specs.Good.{arrays_of_references, element_typed, typed_field, typed_element, level_typed, length_typed, typed_look, typed_read, typed_level, owner_allocated, typed_of};
 ghost use Rattle.ss_store_rules.specs.Changes.{field_type};
 ghost use Rattle.ss_terms.specs.Forms.{term_at, terms_at, formula_at, HasTerm, HasTerms, HasFormula, HasFormulas, formulas_at, IsGrown, IsBankOf};
-ghost use Rattle.ss_rules_basic.specs.Arguments.{IsInstance};
+ghost use Rattle.ss_terms.specs.Numbered.{IsNumberOf};
 ghost use Rattle.ss_rules_basic.specs.Looks.{look_in, HasLook};
 
 use crate::elements::typed_element_at;
@@ -37,7 +37,7 @@ fn typed_field_at(
     requires classes { length (view.classes classes.now) ≤ most_classes }
     requires store { HasTerm b.old s }
     requires object { HasTerm b.old o }
-    ensures at { IfOk result (λ r. IsInstance b.new r (typed_field (view.classes classes.now) (term_at b.old s) (term_at b.old o) f (field_type (view.classes classes.now) f))) }
+    ensures at { IfOk result (λ r. IsNumberOf b.new r (typed_field (view.classes classes.now) (term_at b.old s) (term_at b.old o) f (field_type (view.classes classes.now) f))) }
     ensures grown { IsGrown b.old b.new }
 {
     let declaring = class_of_field(classes, f);
@@ -264,7 +264,7 @@ fn typed_read_at(
     requires classes { length (view.classes classes.now) ≤ most_classes }
     requires store { HasTerm b.old s }
     requires look { HasLook b.old look }
-    ensures at { IfOk result (λ r. IsInstance b.new r (typed_look (view.classes classes.now) (term_at b.old s) (look_in b.old look))) }
+    ensures at { IfOk result (λ r. IsNumberOf b.new r (typed_look (view.classes classes.now) (term_at b.old s) (look_in b.old look))) }
     ensures grown { IsGrown b.old b.new }
 {
     match look {
@@ -297,7 +297,7 @@ fn typed_named(
     requires store { HasTerm b.old s }
     requires kind { HasTerm b.old kind }
     requires arguments { HasTerms b.old arguments.now }
-    ensures at { IfOk result (λ r. IsInstance b.new r (typed_read (view.classes classes.now) (term_at b.old s) (look_from (term_at b.old kind) (terms_at b.old arguments.now)))) }
+    ensures at { IfOk result (λ r. IsNumberOf b.new r (typed_read (view.classes classes.now) (term_at b.old s) (look_from (term_at b.old kind) (terms_at b.old arguments.now)))) }
     ensures grown { IsGrown b.old b.new }
 {
     match read_named(b, classes, kind, arguments) {
@@ -335,7 +335,7 @@ fn typed_two(
     requires kind { HasTerm b.old kind }
     requires first { HasTerm b.old read.0 }
     requires second { HasTerm b.old read.1 }
-    ensures at { IfOk result (λ r. IsInstance b.new r (typed_of (view.classes classes.now) (term_at b.old s) (term_at b.old kind ∷ term_at b.old read.0 ∷ term_at b.old read.1 ∷ []))) }
+    ensures at { IfOk result (λ r. IsNumberOf b.new r (typed_of (view.classes classes.now) (term_at b.old s) (term_at b.old kind ∷ term_at b.old read.0 ∷ term_at b.old read.1 ∷ []))) }
     ensures grown { IsGrown b.old b.new }
 {
     let (o, t) = read;
@@ -363,7 +363,7 @@ fn typed_owner(
     requires object { HasTerm b.old p }
     requires owner { HasTerm b.old owner.0 }
     requires class { HasTerm b.old owner.1 }
-    ensures at { (cs : List ClassTree) → IsBankOf cs b.old → IfOk result (λ r. IsInstance b.new r (typed_of cs (term_at b.old s) (term_at b.old kind ∷ term_at b.old p ∷ term_at b.old owner.0 ∷ term_at b.old owner.1 ∷ []))) }
+    ensures at { (cs : List ClassTree) → IsBankOf cs b.old → IfOk result (λ r. IsNumberOf b.new r (typed_of cs (term_at b.old s) (term_at b.old kind ∷ term_at b.old p ∷ term_at b.old owner.0 ∷ term_at b.old owner.1 ∷ []))) }
     ensures grown { IsGrown b.old b.new }
 {
     let (o, t) = owner;
@@ -387,7 +387,7 @@ pub(crate) fn typed_rule(
     requires fields { length (all_fields (view.classes classes.now)) ≤ 2 ^ 32 }
     requires store { HasTerm b.old s }
     requires arguments { HasTerms b.old arguments.now }
-    ensures at { IfOk result (λ r. IsInstance b.new r (typed_of (view.classes classes.now) (term_at b.old s) (terms_at b.old arguments.now))) }
+    ensures at { IfOk result (λ r. IsNumberOf b.new r (typed_of (view.classes classes.now) (term_at b.old s) (terms_at b.old arguments.now))) }
     ensures grown { IsGrown b.old b.new }
 {
     match arguments {

@@ -9,7 +9,7 @@ use Rattle.ss_core.proofs.Declared.{declared_at}
 use Rattle.ss_logic.specs.Formulas.{Formula}
 use Rattle.ss_terms.specs.declared.forms.FormulaId.{FormulaId}
 use Rattle.ss_terms.specs.Forms.{Forms, IsFormulaNumber}
-use Rattle.ss_rules_basic.specs.Arguments.{IsInstance}
+use Rattle.ss_terms.specs.Numbered.{IsNumberOf}
 
 first_fields : (f : ℕ → ℕ) (t : ℕ) (ts : List ℕ) → f t ≤ sum_by f (t ∷ ts)
 first_fields f t ts = let sum = sum_by-cons f t ts in omega arith
@@ -43,10 +43,10 @@ few_fields cs w =
     let few = w.classes in
     omega (arith, all, few)
 
-numbered_as : (b : Forms) (o : Option FormulaId) (f : Option Formula) → IsInstance b o f → IsFormulaNumber b f o
+numbered_as : (b : Forms) (o : Option FormulaId) (f : Option Formula) → IsNumberOf b o f → IsFormulaNumber b f o
 numbered_as b None f h = subst (λ x. IsFormulaNumber b x None) (sym h) refl
 numbered_as b (Some x) f h = subst (λ y. IsFormulaNumber b y (Some x)) (sym h.1) (x, refl, h.0, refl)
 
-pub by_number : {E : Type 0} (b : Forms) (f : Option Formula) (r : Result (Option FormulaId) E) → IfOk r (λ o. IsInstance b o f) → IfOk r (λ o. IsFormulaNumber b f o)
+pub by_number : {E : Type 0} (b : Forms) (f : Option Formula) (r : Result (Option FormulaId) E) → IfOk r (λ o. IsNumberOf b o f) → IfOk r (λ o. IsFormulaNumber b f o)
 by_number b f (Ok o) h = numbered_as b o f h
 by_number b f (Err e) h = tt

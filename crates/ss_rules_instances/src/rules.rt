@@ -6,7 +6,7 @@ ghost use Rattle.ss_core.specs.Chain.{IsWithinLimits};
 ghost use Rattle.ss_core.specs.View as view;
 ghost use Rattle.ss_logic.specs.Rules.{numbered, fresh_of, class_of, split_of, instance_of};
 ghost use Rattle.ss_terms.specs.Forms.{term_at, terms_at, HasTerm, HasTerms, IsFormulaNumber, IsGrown, IsBankOf};
-ghost use Rattle.ss_rules_basic.specs.Arguments.{IsInstance};
+ghost use Rattle.ss_terms.specs.Numbered.{IsNumberOf};
 
 use ss_core::Classes;
 use ss_logic::RuleName;
@@ -20,7 +20,7 @@ use std::alloc::{AllocError, Global};
 // The rule on new references: the first argument is the sentence's number.
 fn fresh(alloc: Global, b: &mut Bank, arguments: &[TermId]) -> Result<Option<FormulaId>, AllocError>
     requires { HasTerms b.old arguments.now }
-    ensures at { (cs : List ClassTree) → IsBankOf cs b.old → IfOk result (λ o. IsInstance b.new o (numbered (fresh_of cs) (terms_at b.old arguments.now))) }
+    ensures at { (cs : List ClassTree) → IsBankOf cs b.old → IfOk result (λ o. IsNumberOf b.new o (numbered (fresh_of cs) (terms_at b.old arguments.now))) }
     ensures grown { IsGrown b.old b.new }
 {
     match arguments {
@@ -35,7 +35,7 @@ fn fresh(alloc: Global, b: &mut Bank, arguments: &[TermId]) -> Result<Option<For
 // The rule on owners, in the same way.
 fn split(alloc: Global, b: &mut Bank, arguments: &[TermId]) -> Result<Option<FormulaId>, AllocError>
     requires { HasTerms b.old arguments.now }
-    ensures at { (cs : List ClassTree) → IsBankOf cs b.old → IfOk result (λ o. IsInstance b.new o (numbered (split_of cs) (terms_at b.old arguments.now))) }
+    ensures at { (cs : List ClassTree) → IsBankOf cs b.old → IfOk result (λ o. IsNumberOf b.new o (numbered (split_of cs) (terms_at b.old arguments.now))) }
     ensures grown { IsGrown b.old b.new }
 {
     match arguments {
@@ -56,7 +56,7 @@ fn class(
 ) -> Result<Option<FormulaId>, AllocError>
     requires bank { IsBankOf (view.classes classes.now) b.old }
     requires arguments { HasTerms b.old arguments.now }
-    ensures at { IfOk result (λ o. IsInstance b.new o (numbered (class_of (view.classes classes.now)) (terms_at b.old arguments.now))) }
+    ensures at { IfOk result (λ o. IsNumberOf b.new o (numbered (class_of (view.classes classes.now)) (terms_at b.old arguments.now))) }
     ensures grown { IsGrown b.old b.new }
 {
     match arguments {
@@ -79,7 +79,7 @@ fn sentence(
     requires bank { IsBankOf (view.classes classes.now) b.old }
     requires limits { IsWithinLimits (view.classes classes.now) }
     requires arguments { HasTerms b.old arguments.now }
-    ensures at { IfOk result (λ o. IsInstance b.new o (instance_of (view.classes classes.now) rule (terms_at b.old arguments.now))) }
+    ensures at { IfOk result (λ o. IsNumberOf b.new o (instance_of (view.classes classes.now) rule (terms_at b.old arguments.now))) }
     ensures grown { IsGrown b.old b.new }
 {
     match rule {

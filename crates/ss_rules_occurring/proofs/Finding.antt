@@ -13,6 +13,7 @@ use Rattle.ss_terms.specs.declared.forms.TermId.{TermId}
 use Rattle.ss_terms.specs.declared.forms.FormulaId.{FormulaId}
 use Rattle.ss_terms.specs.Forms.{Forms, term_at, terms_at, formula_at, formulas_at, HasTerm, HasTerms, HasFormula, HasFormulas}
 use Rattle.ss_terms.specs.Apart.{AreApart}
+use Rattle.ss_terms.proofs.Longer.{HasFormulas-push, HasTerms-push}
 use Rattle.ss_rules_occurring.specs.declared.found.FormulaList.{FormulaList}
 use Rattle.ss_rules_occurring.specs.declared.found.TermList.{TermList}
 use Rattle.ss_rules_occurring.specs.Found.{AreMarked, formula_number, term_number, formulas_of, terms_of, Holds, HoldsTerms, HasFound, HasFoundTerms}
@@ -52,14 +53,6 @@ pub term_numbers : (b : Forms) → AreApart b → (t : TermId) → HasTerm b t �
     list_any (λ n. t.0 == n) (map term_number ts) ≡ list_any (same_term (term_at b t)) (terms_at b ts)
 term_numbers b a t h [] hs = refl
 term_numbers b a t h (u ∷ us) hs = let e = a.terms t u h hs.0 in let r = term_numbers b a t h us hs.1 in cc
-
-HasFormulas-push : (b : Forms) (fs : List FormulaId) (f : FormulaId) → HasFormulas b fs → HasFormula b f → HasFormulas b (fs ++ f ∷ [])
-HasFormulas-push b [] f h at = (at, tt)
-HasFormulas-push b (g ∷ fs) f h at = (h.0, HasFormulas-push b fs f h.1 at)
-
-pub HasTerms-push : (b : Forms) (ts : List TermId) (t : TermId) → HasTerms b ts → HasTerm b t → HasTerms b (ts ++ t ∷ [])
-HasTerms-push b [] t h at = (at, tt)
-HasTerms-push b (u ∷ ts) t h at = (h.0, HasTerms-push b ts t h.1 at)
 
 -- ---- adding
 

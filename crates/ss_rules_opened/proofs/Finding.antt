@@ -15,6 +15,7 @@ use Rattle.ss_terms.specs.declared.forms.Symbol as form
 use Rattle.ss_terms.specs.declared.forms.Term.TheVariants.{App as AppForm}
 use Rattle.ss_terms.specs.Forms.{Forms, term_at, terms_at, HasTerm, HasTerms, IsTermForm}
 use Rattle.ss_terms.proofs.Trees.{AreTermsBelow-more}
+use Rattle.ss_terms.proofs.Longer.{HasTerms-push}
 use Rattle.ss_rules_opened.specs.Matches.{found_at, all_found_at, HasAllFound, IsMatch, AreThese}
 
 -- ---- what stands for one bound name
@@ -236,10 +237,6 @@ one_missing b ts found i d all within e left = record { has = tt; are = sym (her
 then_one : (ts : List Term) (x : Term) (o : Option (List Term)) → after_these (ts ++ x ∷ []) o ≡ after_these ts (option_map (λ us. x ∷ us) o)
 then_one ts x None = refl
 then_one ts x (Some us) = ap Some (append_assoc ts (x ∷ []) us)
-
-HasTerms-push : (b : Forms) (ts : List TermId) (t : TermId) → HasTerms b ts → HasTerm b t → HasTerms b (ts ++ t ∷ [])
-HasTerms-push b [] t h k = (k, tt)
-HasTerms-push b (x ∷ ts) t h k = (h.0, HasTerms-push b ts t h.1 k)
 
 pub has_one_more : (b : Forms) (ts more : List TermId) (found : List (Option TermId)) (i : ℕ) (d : Option TermId) (t : TermId) → HasTerms b ts → HasAllFound b found → i < length found → get_or found i d ≡ Some t → more ≡ ts ++ t ∷ [] → HasTerms b more
 has_one_more b ts more found i d t h k within e pushed = subst (HasTerms b) (sym pushed) (HasTerms-push b ts t h (HasTerm-there b found i d t k within e))

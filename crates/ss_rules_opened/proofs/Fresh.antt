@@ -9,6 +9,7 @@ use Rattle.ss_logic.specs.Opened.{is_numbered, least_from, fresh_constant, fresh
 use Rattle.ss_terms.specs.declared.forms.TermId.{TermId}
 use Rattle.ss_terms.specs.Forms.{Forms, term_at, terms_at, HasTerm, HasTerms, IsGrown}
 use Rattle.ss_terms.proofs.Grown.{HasTerms-grown, terms_at-grown}
+use Rattle.ss_terms.proofs.Longer.{HasTerms-push}
 
 pub count-map : (b : Forms) (ts : List TermId) → length (terms_at b ts) ≡ length ts
 count-map b [] = refl
@@ -34,10 +35,6 @@ pub least_last : (n k : ℕ) (s : Sort) (ts : List Term) (all : ℕ) → n ≤ k
 least_last n k s ts all past left = let none : n - k ≡ 0 = omega arith in sym (ap (λ m. least_from m k s ts) none) ∙ left
 
 -- ---- one more constant
-
-HasTerms-push : (b : Forms) (ts : List TermId) (t : TermId) → HasTerms b ts → HasTerm b t → HasTerms b (ts ++ t ∷ [])
-HasTerms-push b [] t h k = (k, tt)
-HasTerms-push b (x ∷ ts) t h k = (h.0, HasTerms-push b ts t h.1 k)
 
 module _ (a b : Forms) (g : IsGrown a b) (ts more : List TermId) (t : TermId) (x : Term) (has : HasTerms a ts) (at : HasTerm b t × (term_at b t ≡ x)) where
   pub has_in_front : more ≡ t ∷ ts → HasTerms b more

@@ -7,7 +7,7 @@ ghost use Rattle.ss_logic.specs.Terms as tree;
 ghost use Rattle.ss_logic.specs.Shapes.{all_of};
 ghost use Rattle.ss_logic.specs.Reads.{look_from, read_over, read_moved, read_instance, is_constant_store, reads_a_store, without_last, last_of};
 ghost use Rattle.ss_terms.specs.Forms.{symbol_of, term_at, terms_at, HasTerm, HasTerms, IsGrown, IsBankOf};
-ghost use Rattle.ss_rules_basic.specs.Arguments.{IsInstance};
+ghost use Rattle.ss_terms.specs.Numbered.{IsNumberOf};
 ghost use Rattle.ss_rules_basic.specs.Looks.{look_in, HasLook};
 ghost use Rattle.ss_rules_reads.specs.Changes.{over_changed};
 
@@ -35,7 +35,7 @@ fn over_one(
     requires after { HasTerm b.old stores.after }
     requires before { HasTerm b.old stores.before }
     requires look { HasLook b.old context.now.look }
-    ensures at { IfOk result (λ o. IsInstance b.new o (option_map all_of (over_changed (view.classes context.now.classes.now) (term_at b.old stores.after) (look_in b.old context.now.look) (symbol_of symbol) (term_at b.old stores.before ∷ [])))) }
+    ensures at { IfOk result (λ o. IsNumberOf b.new o (option_map all_of (over_changed (view.classes context.now.classes.now) (term_at b.old stores.after) (look_in b.old context.now.look) (symbol_of symbol) (term_at b.old stores.before ∷ [])))) }
     ensures grown { IsGrown b.old b.new }
 {
     match symbol {
@@ -68,7 +68,7 @@ fn over_two(
     requires before { HasTerm b.old stores.before }
     requires object { HasTerm b.old o }
     requires look { HasLook b.old context.now.look }
-    ensures at { IfOk result (λ r. IsInstance b.new r (option_map all_of (over_changed (view.classes context.now.classes.now) (term_at b.old stores.after) (look_in b.old context.now.look) (symbol_of symbol) (term_at b.old stores.before ∷ term_at b.old o ∷ [])))) }
+    ensures at { IfOk result (λ r. IsNumberOf b.new r (option_map all_of (over_changed (view.classes context.now.classes.now) (term_at b.old stores.after) (look_in b.old context.now.look) (symbol_of symbol) (term_at b.old stores.before ∷ term_at b.old o ∷ [])))) }
     ensures grown { IsGrown b.old b.new }
 {
     match symbol {
@@ -112,7 +112,7 @@ fn over_three(
     requires first { HasTerm b.old objects.0 }
     requires second { HasTerm b.old objects.1 }
     requires look { HasLook b.old context.now.look }
-    ensures at { IfOk result (λ r. IsInstance b.new r (option_map all_of (over_changed (view.classes context.now.classes.now) (term_at b.old stores.after) (look_in b.old context.now.look) (symbol_of symbol) (term_at b.old stores.before ∷ term_at b.old objects.0 ∷ term_at b.old objects.1 ∷ [])))) }
+    ensures at { IfOk result (λ r. IsNumberOf b.new r (option_map all_of (over_changed (view.classes context.now.classes.now) (term_at b.old stores.after) (look_in b.old context.now.look) (symbol_of symbol) (term_at b.old stores.before ∷ term_at b.old objects.0 ∷ term_at b.old objects.1 ∷ [])))) }
     ensures grown { IsGrown b.old b.new }
 {
     match symbol {
@@ -152,7 +152,7 @@ fn over_four(
     requires index { HasTerm b.old written.index }
     requires value { HasTerm b.old written.value }
     requires look { HasLook b.old context.now.look }
-    ensures at { IfOk result (λ r. IsInstance b.new r (option_map all_of (over_changed (view.classes context.now.classes.now) (term_at b.old stores.after) (look_in b.old context.now.look) (symbol_of symbol) (term_at b.old stores.before ∷ term_at b.old written.array ∷ term_at b.old written.index ∷ term_at b.old written.value ∷ [])))) }
+    ensures at { IfOk result (λ r. IsNumberOf b.new r (option_map all_of (over_changed (view.classes context.now.classes.now) (term_at b.old stores.after) (look_in b.old context.now.look) (symbol_of symbol) (term_at b.old stores.before ∷ term_at b.old written.array ∷ term_at b.old written.index ∷ term_at b.old written.value ∷ [])))) }
     ensures grown { IsGrown b.old b.new }
 {
     match symbol {
@@ -177,7 +177,7 @@ fn over_form(
     requires after { HasTerm b.old after }
     requires arguments { HasTerms b.old arguments.now }
     requires look { HasLook b.old context.now.look }
-    ensures at { IfOk result (λ r. IsInstance b.new r (option_map all_of (over_changed (view.classes context.now.classes.now) (term_at b.old after) (look_in b.old context.now.look) (symbol_of symbol) (terms_at b.old arguments.now)))) }
+    ensures at { IfOk result (λ r. IsNumberOf b.new r (option_map all_of (over_changed (view.classes context.now.classes.now) (term_at b.old after) (look_in b.old context.now.look) (symbol_of symbol) (terms_at b.old arguments.now)))) }
     ensures grown { IsGrown b.old b.new }
 {
     match arguments {
@@ -216,7 +216,7 @@ fn over_store(
     requires store { HasTerm b.old s }
     requires look { HasLook b.old look }
     requires fits { is_look (view.classes classes.now) (look_in b.old look) ≡ true }
-    ensures at { IfOk result (λ r. IsInstance b.new r (read_over (view.classes classes.now) (term_at b.old s) (Some (look_in b.old look)))) }
+    ensures at { IfOk result (λ r. IsNumberOf b.new r (read_over (view.classes classes.now) (term_at b.old s) (Some (look_in b.old look)))) }
     ensures grown { IsGrown b.old b.new }
 {
     if !looks_at_store(look) {
@@ -294,7 +294,7 @@ fn moved_read(
     requires other { HasTerm b.old t }
     requires look { HasLook b.old look }
     requires fits { is_look (view.classes classes.now) (look_in b.old look) ≡ true }
-    ensures at { IfOk result (λ r. IsInstance b.new r (read_moved (view.classes classes.now) (term_at b.old s) (term_at b.old t) (Some (look_in b.old look)))) }
+    ensures at { IfOk result (λ r. IsNumberOf b.new r (read_moved (view.classes classes.now) (term_at b.old s) (term_at b.old t) (Some (look_in b.old look)))) }
     ensures grown { IsGrown b.old b.new }
 {
     let _ = classes;
@@ -324,7 +324,7 @@ fn moved_rule(
     requires kind { HasTerm b.old kind }
     requires store { HasTerm b.old s }
     requires arguments { HasTerms b.old arguments.now }
-    ensures at { IfOk result (λ r. IsInstance b.new r (option_and_then (λ t. read_moved (view.classes classes.now) (term_at b.old s) t (look_from (term_at b.old kind) (without_last (terms_at b.old arguments.now)))) (last_of (terms_at b.old arguments.now)))) }
+    ensures at { IfOk result (λ r. IsNumberOf b.new r (option_and_then (λ t. read_moved (view.classes classes.now) (term_at b.old s) t (look_from (term_at b.old kind) (without_last (terms_at b.old arguments.now)))) (last_of (terms_at b.old arguments.now)))) }
     ensures grown { IsGrown b.old b.new }
 {
     match split_last(arguments) {
@@ -364,7 +364,7 @@ fn changed_rule(
     requires kind { HasTerm b.old kind }
     requires store { HasTerm b.old s }
     requires arguments { HasTerms b.old arguments.now }
-    ensures at { IfOk result (λ r. IsInstance b.new r (read_over (view.classes classes.now) (term_at b.old s) (look_from (term_at b.old kind) (terms_at b.old arguments.now)))) }
+    ensures at { IfOk result (λ r. IsNumberOf b.new r (read_over (view.classes classes.now) (term_at b.old s) (look_from (term_at b.old kind) (terms_at b.old arguments.now)))) }
     ensures grown { IsGrown b.old b.new }
 {
     match read_named(b, classes, kind, arguments) {
@@ -384,7 +384,7 @@ pub fn read_rule(
     requires classes { length (view.classes classes.now) ≤ most_classes }
     requires fields { length (all_fields (view.classes classes.now)) ≤ 2 ^ 32 }
     requires arguments { HasTerms b.old arguments.now }
-    ensures at { IfOk result (λ r. IsInstance b.new r (read_instance (view.classes classes.now) (terms_at b.old arguments.now))) }
+    ensures at { IfOk result (λ r. IsNumberOf b.new r (read_instance (view.classes classes.now) (terms_at b.old arguments.now))) }
     ensures grown { IsGrown b.old b.new }
 {
     let [kind, s, rest @ ..] = arguments else {

@@ -43,6 +43,13 @@ fn with_splits(limits: Limits, splits: u64) -> Limits {
     }
 }
 
+// Whether nothing is left of a limit that is higher the second time.
+fn is_stopped(left: Limits, first: Limits, second: Limits) -> bool {
+    left.instances == 0 && first.instances < second.instances
+        || left.splits == 0 && first.splits < second.splits
+        || left.trials == 0 && first.trials < second.trials
+}
+
 // The derivation, where the checker accepts it. What the checker makes is forgotten.
 fn accepted(
     alloc: Global,
@@ -85,7 +92,7 @@ impl Search {
     }
 
     /// Searches for a derivation of an obligation whose premises and goal are well formed. Where none is found, it makes the ground form, and
-    /// decides of that as far as the options go.
+    /// decides whether that has a model, as far as the options go.
     pub fn prove(
         &mut self,
         bank: &mut Bank,
@@ -136,7 +143,7 @@ impl Search {
         }
     }
 
-    // What the engine finds, and again with more where the search was stopped.
+    // What the engine finds, and again with more where a limit stopped it that is higher then.
     fn run_engine(
         &mut self,
         bank: &mut Bank,
@@ -149,25 +156,18 @@ impl Search {
         ensures grown { IsGrown bank.old bank.new }
     {
         let Obligation { premises, goal, .. } = *obligation;
-        let first = with_splits(FIRST, splits);
+        let (first, second) = (with_splits(FIRST, splits), with_splits(SECOND, splits));
         let answer = self.engine.search(bank, classes, premises, goal, first)?;
         match answer {
-            Answer::Stuck if self.is_spent() => {
-                let second = with_splits(SECOND, splits);
+            Answer::Stuck if is_stopped(self.engine.left(), first, second) => {
                 self.engine.search(bank, classes, premises, goal, second)
             }
             _ => Ok(answer),
         }
     }
-
-    // Whether the last search was stopped.
-    fn is_spent(&self) -> bool {
-        let left = self.engine.left();
-        left.instances == 0 || left.splits == 0 || left.trials == 0
-    }
 }
 
-/// Decides of one obligation alone, as `Search::prove` does.
+/// Decides one obligation alone, as `Search::prove` does.
 pub fn prove(
     alloc: Global,
     bank: &mut Bank,

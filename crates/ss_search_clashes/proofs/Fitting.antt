@@ -21,7 +21,7 @@ use Rattle.ss_equality_rules.specs.Equal.{IsEqual, applied, AreFormsOf, class_nu
 use Rattle.ss_equality_rules.proofs.Lists.{there}
 use Rattle.ss_search_procedure_rules.specs.Closed.{is_basic, basics}
 use Rattle.ss_search_procedure_rules.specs.Clashes.{Classing, classes_in, FitsClasses}
-use Rattle.ss_search_procedure_rules.proofs.Lists.{map_from, from_filter}
+use Rattle.ss_logic.proofs.Lists.{map_from, from_filter}
 use Rattle.ss_search_procedure_rules.proofs.Fitting.{classes_themselves, predicate_itself}
 use Rattle.ss_search_clashes.specs.Numbered.{IsClassing, differs, is_denied, is_opposed, HasNoClash, AreMerged}
 use Rattle.ss_search_clashes.proofs.Numbers.{classes_numbered}

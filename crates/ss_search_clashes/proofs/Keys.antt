@@ -1,5 +1,5 @@
 -- Signatures that stand for one key are one, and what was said of them.
-use Rattle.std.proofs.Common.{◌≡◌, ℕ, List, [], ◌∷◌, ◌++◌, Bool, true, false, ◌&&◌, eqb, Some, None, cond, refl, sym, ◌∙◌, ap, subst, inl, inr, ◌⊎◌, rules}
+use Rattle.std.proofs.Common.{◌≡◌, ℕ, List, [], ◌∷◌, ◌++◌, Bool, true, false, ◌&&◌, eqb, Some, None, cond, refl, sym, ◌∙◌, ap, subst, inl, inr, ◌⊎◌}
 use Rattle.std.specs.Prelude.{if◌then◌else◌}
 use Rattle.std.specs.Bool.{Decides}
 use Rattle.std.specs.Cmp.Lexicographic.{pointwise}
@@ -8,10 +8,9 @@ use Rattle.std.proofs.lemmas.Bool.{and_parts, eqb-true, eq-eqb, false≢true}
 use Rattle.std.proofs.lemmas.Slice.Eq.{slice_eq-Decides}
 use Rattle.ss_logic.specs.Equal.{same_predicate, equal_predicates}
 use Rattle.ss_logic_countermodels.specs.Refuting.{same_classes}
-use Rattle.ss_terms.specs.declared.forms.Predicate as form
-use Rattle.ss_terms.specs.contracts.forms.PredicatePartialEq.TheImpl as predicate_eq
 use Rattle.ss_terms.specs.Forms.{predicate_of}
 use Rattle.ss_terms.proofs.Symbols.{predicates_differ}
+use Rattle.ss_terms.proofs.Same.{predicate_Decides}
 use Rattle.ss_search_procedure_rules.proofs.Fitting.{classes_themselves, predicate_itself}
 use Rattle.ss_search_clashes.specs.declared.signatures.Signature.{Signature}
 use Rattle.ss_search_clashes.specs.declared.signatures.Signature.TheVariants as signature
@@ -46,9 +45,6 @@ same_key_itself (ValueKey n) = eq-eqb n n refl
 
 abbrev pub is_same : Signature → Signature → Bool
 is_same = (signature_eq.ghosts).eq
-
-predicate_Decides : (a b : form.Predicate) → Decides ((predicate_eq.ghosts).eq a b) (a ≡ b)
-predicate_Decides a b = search rules
 
 numbers_Decides : (ns ks : List ℕ) → Decides (pointwise eqb ns ks) (ns ≡ ks)
 numbers_Decides ns ks = slice_eq-Decides (λ a b. (eqb-true a b, eq-eqb a b)) ns ks (pointwise eqb ns ks) refl

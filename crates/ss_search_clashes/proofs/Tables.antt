@@ -8,7 +8,7 @@ use Rattle.ss_terms.specs.declared.forms.FormulaId.{FormulaId}
 use Rattle.ss_terms.specs.Forms.{Forms, formula_at, AreBelow, HasFormula, HasFormulas}
 use Rattle.ss_terms.specs.Apart.{AreApart}
 use Rattle.ss_search_procedure_rules.specs.Clashes.{Classing}
-use Rattle.ss_search_procedure_rules.proofs.Lists.{contains_split}
+use Rattle.ss_logic.proofs.Lists.{contains_split}
 use Rattle.ss_search_clashes.specs.declared.signatures.Said.{Said}
 use Rattle.ss_search_clashes.specs.declared.clashes.Clash.TheVariants as clash
 use Rattle.ss_search_clashes.specs.declared.known.Against.TheVariants as against

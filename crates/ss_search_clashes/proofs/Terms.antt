@@ -17,7 +17,7 @@ use Rattle.ss_terms.proofs.Trees.{AreTermsBelow-more}
 use Rattle.ss_equality_rules.specs.Equal.{AreFormsOf}
 use Rattle.ss_equality_rules.proofs.Lists.{there}
 use Rattle.ss_search_procedure_rules.specs.Closed.{is_basic, basics}
-use Rattle.ss_search_procedure_rules.proofs.Lists.{contains_none, contains_split, map_from, from_filter}
+use Rattle.ss_logic.proofs.Lists.{contains_none, contains_split, map_from, from_filter}
 use Rattle.ss_search_procedure_rules.proofs.Occurring.{subterms, all_subterms, terms_in, from_all, from_collected}
 use Rattle.ss_search_clashes.specs.Numbered.{terms_of_bank}
 use Rattle.ss_search_clashes.proofs.Numbers.{length_trees, term_there}

@@ -18,7 +18,7 @@ use Rattle.ss_search_models.specs.declared.signatures.Given.TheVariants as given
 use Rattle.ss_search_models.specs.contracts.signatures.SignaturePartialEq.TheImpl as signature_eq
 use Rattle.ss_search_models.specs.contracts.signatures.GivenPartialEq.TheImpl as given_eq
 use Rattle.ss_search_models.specs.Keys.{Key, FunctionKey, AtomKey, ValueKey, key_of, same_key, Givens, givens_in, given_to}
-use Rattle.ss_search_models.proofs.Symbols.{symbol_Decides, predicate_Decides}
+use Rattle.ss_terms.proofs.Same.{symbol_Decides, predicate_Decides}
 
 -- ---- equal keys
 

@@ -2,7 +2,6 @@ pub mod Numbers
 pub mod Tellings
 pub mod Terms
 pub mod Outcome
-pub mod Symbols
 pub mod Keys
 pub mod Said
 pub mod Models

@@ -13,7 +13,7 @@ use Rattle.ss_terms.specs.Forms.{formula_at, formulas_at}
 use Rattle.ss_deriv.specs.declared.line.Line.{Line}
 use Rattle.ss_logic.specs.Includes.{Includes}
 use Rattle.ss_search_procedure_rules.specs.Closed.{IsTotal}
-use Rattle.ss_search_procedure_rules.proofs.Lists.{contains_head, contains_cons, contains_none, contains_split}
+use Rattle.ss_logic.proofs.Lists.{contains_head, contains_cons, contains_none, contains_split}
 use Rattle.ss_search_procedure_rules.proofs.Occurring.{from_collected, to_collected}
 use Rattle.ss_search_reaching.specs.declared.reaching.Reaching.{Reaching}
 use Rattle.ss_search_procedure.specs.declared.setting.Settling.{Settling}

@@ -12,7 +12,7 @@ use Rattle.ss_deriv.specs.declared.line.Line.{Line}
 use Rattle.ss_deriv.specs.Lines.{lines_of}
 use Rattle.ss_search_clashes.specs.Closing.{Closes}
 use Rattle.ss_logic.specs.Includes.{Includes}
-use Rattle.ss_search_procedure_rules.proofs.Lists.{contains_none, contains_split}
+use Rattle.ss_logic.proofs.Lists.{contains_none, contains_split}
 use Rattle.ss_search_procedure_rules.proofs.Occurring.{from_collected}
 use Rattle.ss_search_path.proofs.Going.{goes_nowhere, goes_through, path_goes}
 use Rattle.ss_search_path.specs.Paths.{IsSame, IsPath}

@@ -26,7 +26,7 @@ use Rattle.ss_search_path.specs.declared.path.Path.{Path}
 use Rattle.ss_search_path.specs.Paths.{known_on, IsPath, IsSame}
 use Rattle.ss_search_path.proofs.Going.{goes_nowhere, path_goes}
 use Rattle.ss_logic.specs.Includes.{Includes}
-use Rattle.ss_search_procedure_rules.proofs.Lists.{contains_none}
+use Rattle.ss_logic.proofs.Lists.{contains_none}
 use Rattle.ss_search_procedure_rules.proofs.Occurring.{to_collected}
 use Rattle.ss_search_path.specs.declared.standing.Given.{Given}
 use Rattle.ss_search_path.specs.declared.standing.Standing.{Standing}

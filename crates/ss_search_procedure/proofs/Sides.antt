@@ -8,7 +8,7 @@ use Rattle.ss_logic.proofs.Truth.{neg_neg}
 use Rattle.ss_logic_means.specs.Steps.{is_literal, is_quantified}
 use Rattle.ss_logic_countermodels.specs.Refuting.{told_in, all_told_in}
 use Rattle.ss_terms.proofs.Tested.{neg_formed}
-use Rattle.ss_search_procedure_rules.proofs.Lists.{contains_none, contains_split}
+use Rattle.ss_logic.proofs.Lists.{contains_none, contains_split}
 use Rattle.ss_search_procedure_rules.proofs.Occurring.{from_collected}
 use Rattle.ss_search_reaching.specs.declared.reaching.Reaching.{Reaching}
 use Rattle.ss_search_procedure.specs.declared.setting.Settling.{Settling}

@@ -16,7 +16,7 @@ use Rattle.ss_logic.specs.Occurring.{with_term, with_arguments, with_terms_of, w
 use Rattle.ss_logic_countermodels.specs.Refuting.{Model, Refutes, told_in, told, as_told, is_whole, equalities_of, equalities, facts_of}
 use Rattle.ss_logic.specs.Includes.{Includes}
 use Rattle.ss_search_procedure_rules.specs.Clashes.{Classing, model_by, FitsClasses}
-use Rattle.ss_search_procedure_rules.proofs.Lists.{contains_head, contains_cons, contains_split, contains_none, map_from, from_filter, any_from}
+use Rattle.ss_logic.proofs.Lists.{contains_head, contains_cons, contains_split, contains_none, map_from, from_filter, any_from}
 use Rattle.ss_search_procedure_rules.proofs.Occurring.{from_collected}
 use Rattle.ss_search_procedure_rules.proofs.Sums.{two_of_more}
 use Rattle.ss_search_procedure_rules.proofs.Fitting.{known_true, fitting_agrees}

@@ -13,7 +13,7 @@ use Rattle.ss_logic.specs.Occurring.{terms}
 use Rattle.ss_logic_countermodels.specs.Refuting.{Model, Agrees, comes_out, told, classes_of, same_classes, are_congruent, are_alike, are_apart, is_equal_inside, implies}
 use Rattle.ss_search_procedure_rules.specs.Closed.{Fits}
 use Rattle.ss_search_procedure_rules.specs.Clashes.{Classing, classes_in, is_said_by, atom_by, model_by, FitsClasses}
-use Rattle.ss_search_procedure_rules.proofs.Lists.{all_from, any_at, any_from}
+use Rattle.ss_logic.proofs.Lists.{all_from, any_at, any_from}
 
 same_classes_equal : (ns ks : List ℕ) → same_classes ns ks ≡ true → ns ≡ ks
 same_classes_equal [] [] h = refl

@@ -1,4 +1,3 @@
-pub mod Lists
 pub mod Open
 pub mod Occurring
 pub mod Told

@@ -10,7 +10,7 @@ use Rattle.ss_core.specs.Tree.{ClassTree}
 use Rattle.ss_logic_countermodels.specs.Refuting.{Model, Agrees, Refutes, comes_out, all_come_true, some_comes_true, told_in, all_told_in, facts_of}
 use Rattle.ss_logic.specs.Includes.{Includes}
 use Rattle.ss_search_procedure_rules.specs.Closed.{is_basic, basics, Fits, MayHold, AllMayHold, SomeMayHold, TwoMayHold, IsSatisfied, IsSaturated, IsTotal}
-use Rattle.ss_search_procedure_rules.proofs.Lists.{contains_head, contains_cons, contains_split, contains_none, contains_filter, all_at, all_from}
+use Rattle.ss_logic.proofs.Lists.{contains_head, contains_cons, contains_split, contains_none, contains_filter, all_at, all_from}
 use Rattle.ss_search_procedure_rules.proofs.Told.{is_told, atom_told, is_atom, Tells, model_of_fewer}
 use Rattle.ss_search_procedure_rules.proofs.Sums.{two_of_more}
 

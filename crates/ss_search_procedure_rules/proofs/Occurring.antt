@@ -8,7 +8,7 @@ use Rattle.ss_logic.specs.Formulas.{Formula, Literal, And, Or, Forall, Exists}
 use Rattle.ss_logic.specs.Equal.{same_term, equal_terms, same_formula, equal_formulas}
 use Rattle.ss_logic.specs.Occurring.{with_formula, with_formulas, with_term, with_arguments, with_terms_of, with_terms_of_all}
 use Rattle.ss_logic.specs.Includes.{Includes}
-use Rattle.ss_search_procedure_rules.proofs.Lists.{contains_head, contains_cons, contains_split, contains_none, any_at, flat_from, flat_to}
+use Rattle.ss_logic.proofs.Lists.{contains_head, contains_cons, contains_split, contains_none, any_at, flat_from, flat_to}
 
 -- ---- formulas, each once
 

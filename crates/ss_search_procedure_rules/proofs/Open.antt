@@ -6,7 +6,7 @@ use Rattle.ss_logic.specs.Formulas.{Formula, neg}
 use Rattle.ss_logic.proofs.Truth.{neg_neg}
 use Rattle.ss_logic.specs.Includes.{Includes}
 use Rattle.ss_search_procedure_rules.specs.Closed.{IsSaturated, OccursIn, IsDecision, Closed, at_once, by_split, StaysOpen, IsTotal}
-use Rattle.ss_search_procedure_rules.proofs.Lists.{includes_cons, includes_all}
+use Rattle.ss_logic.proofs.Lists.{includes_cons, includes_all}
 
 -- ---- more formulas, greater depth
 

@@ -11,7 +11,7 @@ use Rattle.ss_logic.specs.Occurring.{atoms_in, all_atoms_in, atoms, terms}
 use Rattle.ss_logic_countermodels.specs.Refuting.{Model, Agrees, comes_out, told_in, all_told_in, told, is_equal_inside, are_congruent, are_alike, are_apart, implies}
 use Rattle.ss_logic.specs.Includes.{Includes}
 use Rattle.ss_search_procedure_rules.specs.Closed.{is_basic}
-use Rattle.ss_search_procedure_rules.proofs.Lists.{contains_head, contains_split, contains_none, all_of_fewer, pairs_of_fewer}
+use Rattle.ss_logic.proofs.Lists.{contains_head, contains_split, contains_none, all_of_fewer, pairs_of_fewer}
 use Rattle.ss_search_procedure_rules.proofs.Occurring.{from_collected, to_collected, terms_of_more}
 
 pub record IsTold (p : Formula) : Type 0 where

@@ -13,7 +13,7 @@ use Rattle.ss_logic.specs.Occurring.{with_formula, with_formulas, with_terms_of_
 use Rattle.ss_logic_countermodels.specs.Refuting.{Model, Refutes, comes_out, all_come_true, some_comes_true, told_in, all_told_in, told, as_told, is_whole, equalities, facts_of}
 use Rattle.ss_logic.specs.Includes.{Includes}
 use Rattle.ss_search_procedure_rules.specs.Closed.{is_basic, basics, IsSaturated, IsTotal, Closed}
-use Rattle.ss_search_procedure_rules.proofs.Lists.{contains_head, contains_cons, contains_split, contains_none, contains_filter, from_filter, map_from, map_to, map_of_fewer, all_at, all_from, any_from, flat_from, flat_to}
+use Rattle.ss_logic.proofs.Lists.{contains_head, contains_cons, contains_split, contains_none, contains_filter, from_filter, map_from, map_to, map_of_fewer, all_at, all_from, any_from, flat_from, flat_to}
 use Rattle.ss_search_procedure_rules.proofs.Occurring.{from_collected, to_collected}
 use Rattle.ss_search_procedure_rules.proofs.Told.{is_told, agrees_by}
 use Rattle.ss_search_procedure_rules.proofs.Sums.{two_of_more}

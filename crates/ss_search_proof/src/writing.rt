@@ -203,7 +203,7 @@ fn use_in(
     Ok(())
 }
 
-// Where a fact is used, all its uses are known, so its block is. What it is made of is used there.
+// Puts a fact into its block, which is settled, since all its uses are known. What it is made of is used in that block.
 fn place_fact(
     used: &mut BinaryHeap<usize>,
     facts: &mut Facts,

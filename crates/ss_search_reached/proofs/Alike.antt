@@ -13,7 +13,7 @@ use Rattle.ss_logic_means.specs.Steps.{is_value}
 use Rattle.ss_linear_rules.specs.Two.{Two}
 use Rattle.ss_logic.specs.Occurring.{terms}
 use Rattle.ss_logic_countermodels.specs.Refuting.{Model, Refutes, comes_out, all_come_true, some_comes_true, told_in, all_told_in, told, classes_of, same_classes, are_congruent, are_alike, are_apart, is_equal_inside, implies, as_told, is_whole, equalities_of, equalities, facts_of}
-use Rattle.ss_search_procedure_rules.proofs.Lists.{contains_head, contains_cons, from_filter, all_at, all_from}
+use Rattle.ss_logic.proofs.Lists.{contains_head, contains_cons, from_filter, all_at, all_from}
 use Rattle.ss_search_procedure_rules.proofs.Occurring.{from_collected, to_collected}
 use Rattle.ss_search_procedure_rules.proofs.Told.{is_told}
 use Rattle.ss_search_reached.proofs.Lists.{single}

@@ -14,11 +14,12 @@ use Rattle.ss_terms.specs.Forms.{Forms, formula_at, formulas_at, HasFormulas}
 use Rattle.ss_rules_occurring.specs.Found.{AreMarked, formula_number}
 use Rattle.ss_logic.specs.Includes.{Includes}
 use Rattle.ss_search_procedure_rules.specs.Closed.{basics, IsSatisfied, TwoMayHold}
-use Rattle.ss_search_procedure_rules.proofs.Lists.{contains_none, map_from, map_to, any_at}
+use Rattle.ss_logic.proofs.Lists.{contains_none, map_from, map_to, any_at}
 use Rattle.ss_search_reached.specs.declared.looking.Looking.{Looking}
 use Rattle.ss_search_reached.specs.Following.{Occur, IsOpenBranch, AreUnits}
 use Rattle.ss_search_reached.specs.Looks.{known_at, HoldsFrom, IsPartOf}
-use Rattle.ss_search_reached.proofs.Lists.{single, one_more, HasFormulas-push, has_formula, part_there, told_of_part, occur_append, contains_get}
+use Rattle.ss_search_reached.proofs.Lists.{single, one_more, has_formula, part_there, told_of_part, occur_append, contains_get}
+use Rattle.ss_terms.proofs.Longer.{HasFormulas-push}
 use Rattle.ss_search_reached.proofs.Holding.{two_hold}
 
 one_id : (f g : FormulaId) → f.0 ≡ g.0 → f ≡ g

@@ -9,7 +9,7 @@ use Rattle.std.proofs.lemmas.List.Elements.{Contains-append_left, Contains-appen
 use Rattle.ss_terms.specs.declared.forms.TermId.{TermId}
 use Rattle.ss_equality_rules.specs.Equal.{class_number}
 use Rattle.ss_logic.specs.Includes.{Includes}
-use Rattle.ss_search_procedure_rules.proofs.Lists.{contains_none}
+use Rattle.ss_logic.proofs.Lists.{contains_none}
 use Rattle.ss_linear.specs.Contradictions.{Pairs}
 use Rattle.ss_search_reached.specs.Groups.{lists_in, group_at, AreGrouped, ArePaired, ArePairs, ArePairsBelow}
 use Rattle.ss_search_reached.proofs.Lists.{single}

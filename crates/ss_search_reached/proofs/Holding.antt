@@ -10,7 +10,7 @@ use Rattle.ss_logic.specs.Formulas.{Formula, Literal, And, Or, Forall, Exists, f
 use Rattle.ss_terms.specs.declared.forms.FormulaId.{FormulaId}
 use Rattle.ss_terms.specs.Forms.{Forms, formula_at, formulas_at}
 use Rattle.ss_search_procedure_rules.specs.Closed.{is_basic, basics, Fits, MayHold, AllMayHold, SomeMayHold, TwoMayHold}
-use Rattle.ss_search_procedure_rules.proofs.Lists.{contains_head, contains_cons}
+use Rattle.ss_logic.proofs.Lists.{contains_head, contains_cons}
 use Rattle.ss_search_reached.specs.declared.looking.Looking.{Looking}
 use Rattle.ss_search_reached.specs.declared.outcomes.Outcomes.{Outcomes}
 use Rattle.ss_search_reached.specs.Looks.{known_at, IsHolding, AreHolding, HoldsFrom}

@@ -13,7 +13,7 @@ use Rattle.ss_terms.specs.Forms.{Forms, TermShape, term_at, formula_at, HasTerm}
 use Rattle.ss_equality_rules.specs.declared.Merge.{Merge}
 use Rattle.ss_equality_rules.specs.Equal.{IsEqual, merged, itself, back, through, applied, Equations, AreFormsOf}
 use Rattle.ss_search_clashes.specs.Numbered.{AreMerged}
-use Rattle.ss_search_procedure_rules.proofs.Lists.{contains_none, contains_split}
+use Rattle.ss_logic.proofs.Lists.{contains_none, contains_split}
 use Rattle.ss_search_reached.specs.Known.{AreOneName, merges_at, AreKept}
 
 -- ---- more merges make no fewer terms equal

@@ -14,7 +14,7 @@ use Rattle.ss_linear.proofs.Seen.{Comes, same_number, sides, equal_meets}
 use Rattle.ss_terms.specs.declared.forms.TermId.{TermId}
 use Rattle.ss_terms.specs.Forms.{Forms, term_at}
 use Rattle.ss_equality_rules.specs.Equal.{class_number}
-use Rattle.ss_search_procedure_rules.proofs.Lists.{contains_head, contains_cons, contains_none, contains_split, contains_filter, from_filter, map_from, map_to}
+use Rattle.ss_logic.proofs.Lists.{contains_head, contains_cons, contains_none, contains_split, contains_filter, from_filter, map_from, map_to}
 use Rattle.ss_search_reached.specs.Groups.{group_at, AreGrouped, AreAmong, ArePairs, neighbours, neighbours_in, AreChained}
 use Rattle.ss_search_reached.proofs.Lists.{single}
 

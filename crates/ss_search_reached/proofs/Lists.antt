@@ -10,7 +10,7 @@ use Rattle.ss_terms.specs.declared.forms.TermId.{TermId}
 use Rattle.ss_terms.specs.declared.forms.FormulaId.{FormulaId}
 use Rattle.ss_terms.specs.Forms.{Forms, formula_at, formulas_at, HasTerm, HasTerms, HasFormula, HasFormulas, AreBelow}
 use Rattle.ss_logic.specs.Includes.{Includes}
-use Rattle.ss_search_procedure_rules.proofs.Lists.{contains_head, contains_cons, contains_none, contains_split, map_to}
+use Rattle.ss_logic.proofs.Lists.{contains_head, contains_cons, contains_none, contains_split, map_to}
 use Rattle.ss_search_reached.specs.Following.{Occur}
 
 pub single : {A : Type 0} (x y : A) → Contains (x ∷ []) y → x ≡ y
@@ -37,10 +37,6 @@ contains_get (y ∷ xs) zero d h = contains_head y xs
 contains_get (y ∷ xs) (suc i) d h = contains_cons y xs (get_or xs i d) (contains_get xs i d (omega (arith, h)))
 
 -- ---- formulas of a bank
-
-pub HasFormulas-push : (b : Forms) (fs : List FormulaId) (f : FormulaId) → HasFormulas b fs → HasFormula b f → HasFormulas b (fs ++ f ∷ [])
-HasFormulas-push b [] f h at = (at, tt)
-HasFormulas-push b (g ∷ fs) f h at = (h.0, HasFormulas-push b fs f h.1 at)
 
 pub HasFormulas-front : (b : Forms) (fs : List FormulaId) (f : FormulaId) → HasFormulas b (fs ++ f ∷ []) → HasFormulas b fs
 HasFormulas-front b [] f h = tt

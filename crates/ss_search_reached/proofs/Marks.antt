@@ -15,7 +15,7 @@ use Rattle.ss_terms.specs.Forms.{Forms, formula_at, formulas_at, HasFormula, Has
 use Rattle.ss_terms.specs.Apart.{AreApart}
 use Rattle.ss_rules_occurring.specs.Found.{AreMarked, formula_number}
 use Rattle.ss_rules_occurring.proofs.Finding.{formula_numbers}
-use Rattle.ss_search_procedure_rules.proofs.Lists.{any_at, any_from}
+use Rattle.ss_logic.proofs.Lists.{any_at, any_from}
 
 pub knows_right : (b : Forms) → AreApart b → (set : BitSet) (fs : List FormulaId) (f : FormulaId) (r : Bool) → HasFormulas b fs → HasFormula b f → AreMarked set (map formula_number fs) → r ≡ marked set f.0 →
     IsTrue r ↔ Contains (formulas_at b fs) (formula_at b f)

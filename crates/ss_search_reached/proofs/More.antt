@@ -16,7 +16,7 @@ use Rattle.ss_equality_rules.specs.Equal.{Equations, AreFormsOf}
 use Rattle.ss_search_clashes.specs.Numbered.{AreMerged}
 use Rattle.ss_search_reached.specs.declared.reached.Reached.{Reached}
 use Rattle.ss_search_reached.specs.Known.{known_in, AreOneName, merges_at, AreKept, IsReached}
-use Rattle.ss_search_reached.proofs.Lists.{HasFormulas-push}
+use Rattle.ss_terms.proofs.Longer.{HasFormulas-push}
 use Rattle.ss_search_reached.proofs.Marks.{knows_right, less_has, less_once, less_listed, front_distinct, marked_less}
 use Rattle.ss_search_reached.proofs.Kept.{merged_none, kept_more, kept_less, as_long, was_last}
 

@@ -8,7 +8,7 @@ use Rattle.ss_logic_countermodels.specs.Refuting.{told_in}
 use Rattle.ss_terms.specs.declared.forms.FormulaId.{FormulaId}
 use Rattle.ss_terms.specs.Forms.{Forms, formula_at, formulas_at}
 use Rattle.ss_logic.specs.Includes.{Includes}
-use Rattle.ss_search_procedure_rules.proofs.Lists.{contains_none, map_from, map_to}
+use Rattle.ss_logic.proofs.Lists.{contains_none, map_from, map_to}
 use Rattle.ss_search_reached.specs.declared.reached.Reached.{Reached}
 use Rattle.ss_search_reached.specs.Known.{known_in, IsReached}
 use Rattle.ss_search_reached.specs.Following.{Occur, Grows, IsSpread, AreSpread}

@@ -19,7 +19,7 @@ use Rattle.ss_linear.specs.Contradictions.{equality_at, equalities_at, HasPairs,
 use Rattle.ss_linear.specs.Met.{Follow, AreMet}
 use Rattle.ss_linear.proofs.Seen.{both_met, no_two}
 use Rattle.ss_search_clashes.specs.Numbered.{class_of, IsClassing}
-use Rattle.ss_search_procedure_rules.proofs.Lists.{contains_filter, from_filter, contains_head, contains_cons, map_from, map_to}
+use Rattle.ss_logic.proofs.Lists.{contains_filter, from_filter, contains_head, contains_cons, map_from, map_to}
 use Rattle.ss_search_reached.specs.Groups.{AreAmong, ArePairs, AreOfOneClass, IsWholeIn, AreWholePairs, AreChained, AreWholeLinks}
 use Rattle.ss_search_reached.specs.Following.{HasNoSum}
 use Rattle.ss_search_reached.proofs.Lists.{has_term}
@@ -39,10 +39,6 @@ module _ {I A : Type 0} (at : I → A) (test : A → Bool) (xs : List I) (i : �
 
   pub filtered_out : (ys : List I) → map at ys ≡ filter test (map at (take i xs)) → test (at (get_or xs i d)) ≡ false → map at ys ≡ filter test (map at (take (i + 1) xs))
   filtered_out ys e t = e ∙ sym (append-nil (filter test (map at (take i xs)))) ∙ ap (λ b. filter test (map at (take i xs)) ++ cond b (at (get_or xs i d) ∷ []) []) (sym t) ∙ sym next_filtered
-
-pub HasTerms-push : (b : Forms) (ts : List TermId) (t : TermId) → HasTerms b ts → HasTerm b t → HasTerms b (ts ++ t ∷ [])
-HasTerms-push b [] t h at = (at, tt)
-HasTerms-push b (u ∷ ts) t h at = (h.0, HasTerms-push b ts t h.1 at)
 
 -- ---- pairs
 

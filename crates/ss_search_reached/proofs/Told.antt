@@ -24,7 +24,7 @@ use Rattle.ss_search_clashes.specs.Numbered.{class_of, IsClassing}
 use Rattle.ss_logic.specs.Includes.{Includes}
 use Rattle.ss_search_procedure_rules.specs.Closed.{basics, IsTotal}
 use Rattle.ss_search_procedure_rules.specs.Clashes.{model_by}
-use Rattle.ss_search_procedure_rules.proofs.Lists.{contains_head, contains_cons, contains_none, contains_split, map_from, map_to}
+use Rattle.ss_logic.proofs.Lists.{contains_head, contains_cons, contains_none, contains_split, map_from, map_to}
 use Rattle.ss_search_procedure_rules.proofs.Occurring.{subterms, all_subterms, terms_in, from_all, all_there, from_collected, to_collected}
 use Rattle.ss_search_reached.specs.declared.reached.Reached.{Reached}
 use Rattle.ss_search_reached.specs.Known.{known_in, is_name, IsReached}

@@ -11,7 +11,7 @@ use Rattle.ss_logic_countermodels.specs.Refuting.{Model, Refutes, comes_out, tol
 use Rattle.ss_logic.specs.Includes.{Includes}
 use Rattle.ss_search_procedure_rules.specs.Closed.{is_basic, basics, IsSaturated, IsTotal}
 use Rattle.ss_search_procedure_rules.specs.Clashes.{Classing, model_by}
-use Rattle.ss_search_procedure_rules.proofs.Lists.{contains_filter, from_filter, map_from, all_at}
+use Rattle.ss_logic.proofs.Lists.{contains_filter, from_filter, map_from, all_at}
 use Rattle.ss_search_procedure_rules.proofs.Occurring.{from_collected, terms_of_more}
 use Rattle.ss_search_procedure_rules.proofs.Told.{is_told, atoms_of_more}
 use Rattle.ss_search_procedure_rules.proofs.Models.{negated, agreeing, tells}

@@ -20,7 +20,7 @@ use Rattle.ss_equality_rules.specs.declared.Merge.{Merge}
 use Rattle.ss_equality_rules.specs.Equal.{Equations, AreFormsOf, AreClassesOf}
 use Rattle.ss_search_clashes.proofs.Sorts.{formed_equal}
 use Rattle.ss_search_whole_sums.specs.Contradicting.{ArePairsEqual, CloseFacts}
-use Rattle.ss_search_procedure_rules.proofs.Lists.{contains_head, contains_cons}
+use Rattle.ss_logic.proofs.Lists.{contains_head, contains_cons}
 use Rattle.ss_search_reached.specs.Groups.{AreOfOneClass, IsWholeIn}
 use Rattle.ss_search_reached.proofs.Lists.{contains_at}
 use Rattle.ss_search_whole_sums.specs.WholeSums.{basic_ones, basic_places, CloseSums, CloseFormed}

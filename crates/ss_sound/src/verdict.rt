@@ -75,8 +75,8 @@ impl Decided {
     }
 }
 
-/// Decides each obligation of a program, in order. Where the ground form of each has no model, and the options are enough for it, the program is
-/// verified.
+/// Decides each obligation of a program, in order. Of a verified program no check fails in any run of an admitted input. Where the ground form
+/// of each obligation has no model, and the options are enough, the program is verified, unless memory runs out.
 pub fn verify(
     alloc: Global,
     program: &Core,

@@ -1,20 +1,12 @@
 -- Values of chains and paths, link by link and step by step.
 use Rattle.std.specs.Prelude.{◌≡◌, List, Ok}
 use Rattle.ss_core.specs.declared.names.Place.{Place}
-use Rattle.ss_core.specs.declared.expr.Link.{Link}
-use Rattle.ss_core.specs.declared.expr.Step.{Step}
-use Rattle.ss_core.specs.declared.expr.Expr.TheFolds.{fold-Link, fold-Step}
 use Rattle.ss_core.specs.Tree.{ExprTree}
-use Rattle.ss_core.specs.View.{Behind, grouped, expr_step, link_step, step_step}
+use Rattle.ss_core.specs.View.{Behind, grouped}
+pub use Rattle.ss_core.specs.Parts.{link_behind, step_behind}
 use Rattle.ss_store_rules.specs.declared.Value.{Value}
 use Rattle.ss_store_rules.specs.Numbers.{Outcome}
 use Rattle.ss_store_rules.specs.Values.{Setting, value_of}
-
-abbrev pub link_behind : Link → Behind
-link_behind = fold-Link ExprTree Behind Behind expr_step link_step step_step
-
-abbrev pub step_behind : Step → Behind
-step_behind = fold-Step ExprTree Behind Behind expr_step link_step step_step
 
 -- it is the value of what stands behind any expression of this value
 abbrev pub IsBehind : Setting → Place → Value → List Behind → Outcome → Type 0

@@ -8,8 +8,8 @@ ghost use Rattle.ss_store.specs.Whole.{whole_of};
 use ss_core::{Kind, Operator, Place};
 use ss_store_rules::{Undefined, Value};
 
-// A value that is no number counts as 0.
-pub(crate) fn as_int(value: Value) -> i32
+/// A value that is no number counts as 0.
+pub fn as_int(value: Value) -> i32
     ensures { result ≡ reads.as_int value }
 {
     match value {
@@ -18,8 +18,8 @@ pub(crate) fn as_int(value: Value) -> i32
     }
 }
 
-// A value that is no truth value counts as false.
-pub(crate) fn as_bool(value: Value) -> bool
+/// A value that is no truth value counts as false.
+pub fn as_bool(value: Value) -> bool
     ensures { result ≡ reads.as_bool value }
 {
     match value {

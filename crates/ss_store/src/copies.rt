@@ -48,7 +48,7 @@ fn copy_objects(alloc: Global, objects: &[Object]) -> Result<Vec<Object>, AllocE
 }
 
 impl Store {
-    /// A store with equal contents, and no room for more.
+    /// A store with equal contents, and no room for more. An error is want of memory.
     pub fn copy(&self) -> Result<Store, AllocError>
         ensures { IfOk result (λ s. s ≡ record { objects = self.now.objects; spare = 0 }) }
     {
@@ -61,14 +61,14 @@ impl Store {
         })
     }
 
-    /// The fields of the object once more.
+    /// A copy of the fields of the object. An error is want of memory.
     pub fn copy_fields(&self, o: u32) -> Result<Vec<Slot>, AllocError>
         ensures { IfOk result (λ v. v.items ≡ (object_at self.now.objects o).fields) }
     {
         copy_slots(*self.objects.allocator(), self.fields_of(o))
     }
 
-    /// The elements of the array once more.
+    /// A copy of the elements of the array. An error is want of memory.
     pub fn copy_elements(&self, a: u32) -> Result<Vec<Value>, AllocError>
         ensures { IfOk result (λ v. v.items ≡ (object_at self.now.objects a).elements) }
     {

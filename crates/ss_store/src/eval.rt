@@ -229,8 +229,8 @@ impl Store {
     ghost use Rattle.ss_core.specs.View.{classes};
     ghost use Rattle.ss_store_rules.specs.Values.{value_of, setting};
 
-    /// The value of an expression of the program over this store, with these values of the locals, or the first cause why it
-    /// has none; `before` tells what `old` and `IsNew` speak of.
+    /// The value of an expression over this store, with these values of the locals, or the first cause why it has none.
+    /// `before` tells what `old` and `IsNew` speak of.
     pub fn eval<B: Before>(
         &self,
         c: &Core,
@@ -252,7 +252,7 @@ impl Store {
         eval(&context, e)
     }
 
-    /// The value that an expression had at the entry of the body, or the first cause why it had none; `before` tells the store
+    /// The value that an expression had at the entry of the body, or the first cause why it had none. `before` tells the store
     /// at entry.
     pub fn eval_at_entry<B: Before>(
         &self,

@@ -104,9 +104,9 @@ fn admits(alloc: Global, c: &Core, main: &Body, input: &[i32]) -> Result<bool, A
     Ok(store.all_hold(c, &store, &main.entry, &locals))
 }
 
-/// Whether the program admits the input: the conditions at the entry of Main hold where the input is the only object, an `int[]`, and
-/// Main's parameter, if it has one; without a parameter it admits the empty input alone. A program whose Main is no body admits none.
-/// An error is want of memory.
+/// Whether the program admits the input: the conditions at Main's entry hold where the input is the only object, an `int[]`. That is the
+/// value of Main's parameter, if it has one; without a parameter it admits the empty input alone. A program whose Main is no body admits
+/// none. An error is want of memory.
 pub fn admitted(alloc: Global, c: &Core, input: &[i32]) -> Result<bool, AllocError>
     requires few { length (classes c.now.classes) ≤ most_classes }
     requires short { length input.now < 2 ^ 31 }

@@ -25,7 +25,7 @@ mod store;
 mod words;
 mod writes;
 
-pub use arithmetic::same_value;
+pub use arithmetic::{as_bool, as_int, same_value};
 pub use before::Before;
 pub use context::owner_of_pair;
 pub use inputs::{admitted, first_store};

@@ -64,7 +64,8 @@ fn new_spare(alloc: Global, n: usize) -> Result<Vec<Vec<Slot>>, AllocError>
 impl Store {
     ghost use Rattle.std.specs.Prelude.{◌++◌, ◌∷◌, [], ◌-◌, ◌≤◌};
 
-    /// Makes room for `n` objects: while there is room, a new object doesn't want memory.
+    /// Makes room for `n` new objects, which then come without want of memory. An error is want of memory here, and the room
+    /// stays as it was.
     pub fn reserve(&mut self, n: usize) -> Result<(), AllocError>
         ensures objects { self.new.objects ≡ self.old.objects }
         ensures room { OnOk result (n ≤ self.new.spare) }

@@ -12,7 +12,7 @@ use ss_store_rules::Value;
 use std::alloc::Global;
 use std::marker::Model;
 
-/// A list of objects, to which references are positions.
+/// A list of objects, to which references are positions. Past its end a read gives no fields, no elements, and the class `object`.
 #[derive(Drop)]
 pub struct Store {
     pub(crate) objects: Vec<Object>,
@@ -53,8 +53,8 @@ impl Store {
         self.objects.get(o as usize)
     }
 
-    /// The positions among which are all objects that the one at `k` holds beside itself: those that it owns, and the members of
-    /// its group. None where every object has to be looked at.
+    /// Positions that include all objects that the one at `k` holds beside itself: those that it owns, and the members of its
+    /// group. None where every object has to be looked at.
     pub fn held_by(&self, k: u32) -> Option<&[u32]>
         ensures { IfSome result (λ ps. HoldsNoOther self.now.objects k ps.now) }
     {

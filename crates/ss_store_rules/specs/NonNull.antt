@@ -4,6 +4,7 @@ use Rattle.std.specs.Bool.{beq}
 use Rattle.ss_core.specs.declared.names.Ty.{Ty}
 use Rattle.ss_core.specs.declared.expr.Operator.{Operator}
 use Rattle.ss_core.specs.declared.expr.Operator.TheVariants as op
+pub use Rattle.ss_core.specs.Types.{is_non_null_type}
 use Rattle.ss_core.specs.Tree.{ClassTree, ExprTree, NullExpr, LocalExpr, FieldExpr, NotExpr, BinaryExpr, IsExpr, AsExpr, CastExpr, OldExpr, CalleeTree, BaseConstructor, StmtTree, AssignStmt, WriteStmt, NewStmt, NewArrayStmt, CallStmt, ReadyStmt, ReturnStmt, BodyTree, CoreTree}
 use Rattle.ss_store_rules.specs.Changes.{below, field_class, field_type}
 use Rattle.ss_store_rules.specs.Good.{is_non_null}
@@ -96,10 +97,6 @@ known_tested e v k = record k {
 }
 
 -- ---- expressions
-
-abbrev pub is_non_null_type : Option Ty → Bool
-is_non_null_type None = false
-is_non_null_type (Some t) = is_non_null t
 
 -- `this`, or `this` as another class
 abbrev pub is_this_object : ExprTree → Bool

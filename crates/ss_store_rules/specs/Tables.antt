@@ -1,7 +1,7 @@
 -- Tables of methods: what the table of a class has in place of each method of the class above.
 use Rattle.std.specs.Prelude.{◌≡◌, ℕ, List, ◌++◌, map, length, take, drop, Bool, true, false, not, ◌==◌, ◌&&◌, ◌||◌, ◌-◌, nat_lt, if◌then◌else◌, Option, Some, None, bytes_eq, slice_get}
 use Rattle.std.specs.List.{list_all, list_any}
-use Rattle.ss_core.specs.declared.names.Place.{Place}
+pub use Rattle.ss_core.specs.Parts.{no_place}
 use Rattle.ss_core.specs.Tree.{ClassTree, EntryTree, LocalTree, DefaultTree, AtLevel, ExprTree, IntExpr, BoolExpr, NullExpr, LocalExpr, FieldExpr, ElementExpr, LengthExpr, NegateExpr, NotExpr, BinaryExpr, ImpliesExpr, IffExpr, IsExpr, AsExpr, CastExpr, OldExpr, QuantifiedExpr, StateExpr, OwnersExpr, DefaultExpr, NamedTree, FieldOf, AllOf, ElementsOf, UptoOf, BodyTree, CoreTree}
 use Rattle.ss_core.specs.Chain.{is_declared, above}
 use Rattle.ss_store_rules.specs.Changes.{below}
@@ -18,9 +18,6 @@ normal_number b x = if nat_lt x (argument_count b) then x else x - length b.loca
 abbrev pub normal_default : DefaultTree → DefaultTree
 normal_default (AtLevel t) = AtLevel 0
 normal_default d = d
-
-abbrev pub no_place : Place
-no_place = record { line = 0; column = 0 }
 
 -- A condition of the body. The place of a default condition doesn't matter.
 abbrev pub normal_condition : BodyTree → ExprTree → ExprTree

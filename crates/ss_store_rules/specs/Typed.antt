@@ -8,6 +8,7 @@ use Rattle.ss_core.specs.declared.names.Ty.TheVariants as ty
 use Rattle.ss_core.specs.Tree.{ClassTree, FieldTree, EntryTree, LocalTree, DefaultTree, AtLevel, Unpacked, ThisUnowned, Defaults, OwnedFull, Full, ConsistentArgument, FullArgument, Captured, ExprTree, DefaultExpr, CalleeTree, Dispatched, Static, Base, BaseConstructor, ExposedTree, StmtTree, AssignStmt, WriteStmt, WriteElementStmt, NewStmt, NewArrayStmt, CallStmt, ReadyStmt, IfStmt, LoopStmt, UnpackStmt, PackStmt, AssertStmt, AssumeStmt, PrintStmt, PrintTextStmt, ReturnStmt, NamedTree, FieldOf, AllOf, ElementsOf, UptoOf, BodyTree, CoreTree}
 use Rattle.ss_core.specs.Chain.{is_declared, declared, above, is_type, DeclaredField, all_fields}
 pub use Rattle.ss_core.specs.Chain.{table_of, table}
+use Rattle.ss_core.specs.Types.{is_class_type}
 use Rattle.ss_store_rules.specs.Changes.{below, is_array}
 use Rattle.ss_store_rules.specs.Admissible.{is_this}
 use Rattle.ss_store_rules.specs.Locals.{types_of, local_types, is_argument, is_result, is_bound, reads_only}
@@ -19,10 +20,6 @@ abbrev pub is_plain : Mark → Bool
 is_plain mark.Plain = true
 is_plain mark.Rep = false
 is_plain mark.Peer = false
-
-abbrev pub is_class_type : Ty → Bool
-is_class_type (ty.Ref t non_null) = true
-is_class_type t = false
 
 -- a field of references alone may be marked
 abbrev pub is_field : List ClassTree → FieldTree → Bool

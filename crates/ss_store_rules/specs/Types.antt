@@ -6,18 +6,12 @@ use Rattle.ss_core.specs.declared.expr.Operator.{Operator}
 use Rattle.ss_core.specs.declared.expr.Operator.TheVariants as op
 use Rattle.ss_core.specs.Tree.{ClassTree, WordTree, New, Level, Packed, OwnersTree, SameOwner, OwnedAt, ExprTree, IntExpr, BoolExpr, NullExpr, LocalExpr, FieldExpr, ElementExpr, LengthExpr, NegateExpr, NotExpr, BinaryExpr, ImpliesExpr, IffExpr, IsExpr, AsExpr, CastExpr, OldExpr, QuantifiedExpr, StateExpr, OwnersExpr, DefaultExpr, BodyTree}
 use Rattle.ss_core.specs.Chain.{sub, is_class, DeclaredField, all_fields}
+use Rattle.ss_core.specs.Types.{nullable}
 use Rattle.ss_store_rules.specs.Numbers.{fits}
 use Rattle.ss_store_rules.specs.Changes.{below, is_array, element_type}
 use Rattle.ss_store_rules.specs.Locals.{local_types, is_result, everywhere}
 
 -- ---- types
-
--- the type without its `!`
-abbrev pub plain : Ty → Ty
-plain ty.Int = ty.Int
-plain ty.Bool = ty.Bool
-plain ty.Null = ty.Null
-plain (ty.Ref t non_null) = ty.Ref t false
 
 abbrev pub class_type : ℕ → Ty
 class_type t = ty.Ref (record { 0 = t }) false
@@ -62,7 +56,7 @@ where_typed condition t = if condition then Some t else None
 -- a field is read from an object of the class that declares it, or of one below
 abbrev pub field_read_type : List ClassTree → Option Ty → Option DeclaredField → Option Ty
 field_read_type cs a None = None
-field_read_type cs a (Some d) = where_typed (has_class (λ c. below cs c d.class) a) (plain d.field.ty)
+field_read_type cs a (Some d) = where_typed (has_class (λ c. below cs c d.class) a) (nullable d.field.ty)
 
 abbrev pub element_of : List ClassTree → Option Ty → Option Ty
 element_of cs (Some (ty.Ref t n)) = where_typed (is_array cs t.0) (element_type t.0)
@@ -107,7 +101,7 @@ abbrev pub type_of : List ClassTree → List Ty → ExprTree → Option Ty
 type_of cs tys (IntExpr p n) = where_typed (fits n) ty.Int
 type_of cs tys (BoolExpr p b) = Some ty.Bool
 type_of cs tys (NullExpr p) = Some ty.Null
-type_of cs tys (LocalExpr p x) = option_map plain (slice_get tys x)
+type_of cs tys (LocalExpr p x) = option_map nullable (slice_get tys x)
 type_of cs tys (FieldExpr p e f) = field_read_type cs (type_of cs tys e) (slice_get (all_fields cs) f)
 type_of cs tys (ElementExpr p a i) = element_read_type cs (type_of cs tys a) (type_of cs tys i)
 type_of cs tys (LengthExpr p e) = where_typed (has_class (is_array cs) (type_of cs tys e)) ty.Int

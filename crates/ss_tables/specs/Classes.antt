@@ -2,6 +2,7 @@
 -- place in the text, from 0.
 use Rattle.std.specs.Prelude.{ℕ, zero, suc, ◌+◌, Bool, List, [], ◌∷◌, length, Option, Some, None, slice_get, position, if◌then◌else◌}
 use Rattle.std.specs.Str.{bytes_eq}
+use Rattle.std.specs.Option.{option_or}
 use Rattle.ss_ast.specs.Expressions.{NameTree}
 use Rattle.ss_ast.specs.Programs.{MemberTree, ClassTree}
 pub use Rattle.ss_core.specs.Kinds.{class_number, array_number, is_array_number, declared_place}
@@ -62,18 +63,14 @@ abbrev pub declared_in : {A : Type 0} → ℕ → Option A → Option (Declared 
 declared_in k None = None
 declared_in k (Some m) = Some (record { class = k; member = m })
 
-abbrev pub or_else : {A : Type 0} → Option A → Option A → Option A
-or_else (Some x) other = Some x
-or_else None other = other
-
 -- the first of these classes that has a field of the name
 abbrev pub first_field : List ClassTree → List ℕ → List ℕ → Option (Declared FieldTree)
 first_field cs n [] = None
-first_field cs n (k ∷ ks) = or_else (declared_in k (field_in (members_at cs k) n)) (first_field cs n ks)
+first_field cs n (k ∷ ks) = option_or (declared_in k (field_in (members_at cs k) n)) (first_field cs n ks)
 
 abbrev pub first_method : List ClassTree → List ℕ → List ℕ → Option (Declared MethodTree)
 first_method cs n [] = None
-first_method cs n (k ∷ ks) = or_else (declared_in k (method_in (members_at cs k) n)) (first_method cs n ks)
+first_method cs n (k ∷ ks) = option_or (declared_in k (method_in (members_at cs k) n)) (first_method cs n ks)
 
 -- the field of this name that a class has: its own, else the nearest above
 abbrev pub field_of : List ClassTree → ℕ → List ℕ → Option (Declared FieldTree)

@@ -1,7 +1,7 @@
 -- What stands under names in a scope and in those around it.
 use Rattle.std.specs.Prelude.{ℕ, List, [], ◌∷◌, ◌++◌, Option, Some, None, is_some, if◌then◌else◌}
 use Rattle.std.specs.Str.{bytes_eq}
-use Rattle.ss_tables.specs.Classes.{or_else}
+use Rattle.std.specs.Option.{option_or}
 
 -- what stands under the names of one scope, in order of declaration
 abbrev pub Named : Type 0 → Type 0
@@ -14,7 +14,7 @@ named_in (x ∷ xs) n = if bytes_eq n x.0 then Some x.1 else named_in xs n
 -- the innermost of these scopes that has the name decides
 abbrev pub named_among : {A : Type 0} → List (Named A) → List ℕ → Option A
 named_among [] n = None
-named_among (xs ∷ outer) n = or_else (named_in xs n) (named_among outer n)
+named_among (xs ∷ outer) n = option_or (named_in xs n) (named_among outer n)
 
 -- one more name; a second one of a name in one scope isn't meant by it
 abbrev pub with_named : {A : Type 0} → Named A → List ℕ → A → Named A
@@ -30,7 +30,7 @@ no_names = record { inner = []; outer = [] }
 
 -- what a name means
 abbrev pub named : {A : Type 0} → Scoped A → List ℕ → Option A
-named s n = or_else (named_in s.inner n) (named_among s.outer n)
+named s n = option_or (named_in s.inner n) (named_among s.outer n)
 
 -- a scope within
 abbrev pub entered : {A : Type 0} → Scoped A → Scoped A

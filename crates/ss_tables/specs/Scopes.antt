@@ -1,12 +1,12 @@
 -- Which locals are in scope. The parameters have a scope, and so has each block, each `for` with its heading, each governed
 -- statement and each quantifier; an inner scope may have a name again.
 use Rattle.std.specs.Prelude.{ℕ, Bool, true, false, List, [], ◌∷◌, Option, Some, None}
+use Rattle.std.specs.Option.{option_or}
 use Rattle.ss_core.specs.declared.names.Ty.{Ty}
 use Rattle.ss_core.specs.declared.names.Ty.TheVariants as ty
 use Rattle.ss_ast.specs.Expressions.{NameTree, TypeTree}
 use Rattle.ss_ast.specs.Statements.{DeclaratorTree, DeclarationTree, ForInitTree, DeclareFirst, SimpleFirst, StmtTree, InBlock, DeclareOf, SimpleOf, IfOf, IfElseOf, WhileOf, ForOf, ReturnOf, AssertOf, AssumeOf, ExposeOf, EmptyOf}
 use Rattle.ss_ast.specs.Programs.{ParamTree, ClassTree}
-use Rattle.ss_tables.specs.Classes.{or_else}
 use Rattle.ss_tables.specs.Named.{Named, named_in, named_among, with_named}
 use Rattle.ss_tables.specs.Types.{written_type}
 
@@ -37,7 +37,7 @@ pub record Scope : Type 0 where
 
 -- the local that a name means: that of the innermost scope that has one
 abbrev pub local_named : Scope → List ℕ → Option Local
-local_named s n = or_else (named_in s.inner n) (named_among s.outer n)
+local_named s n = option_or (named_in s.inner n) (named_among s.outer n)
 
 -- the scope of a member of a class, in which no local stands
 abbrev pub class_scope : List ClassTree → ℕ → Scope

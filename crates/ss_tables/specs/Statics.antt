@@ -5,12 +5,13 @@ use Rattle.std.specs.Str.{bytes_eq}
 use Rattle.ss_core.specs.declared.names.Ty.{Ty}
 use Rattle.ss_core.specs.declared.names.Ty.TheVariants as ty
 pub use Rattle.ss_core.specs.Operations.{operation_type}
+use Rattle.ss_core.specs.Types.{nullable}
 use Rattle.ss_ast.specs.Expressions.{TypeTree, ExprTree, Arguments, NoMore, Argument, IffOf, ImpliesOf, BinaryOf, IsOf, AsOf, NegateOf, NotOf, CastOf, MemberOf, ElementOf, CallOf, NumberOf, TextOf, TruthOf, NullOf, ThisOf, BaseOf, ResultOf, NameOf, ParenOf, OldOf, NewOf, NewArrayOf, QuantifiedOf}
 use Rattle.ss_ast.specs.Programs.{ParamTree, ClassTree}
 use Rattle.ss_tables.specs.Words.{is_console, is_owner, is_print, is_owner_word, is_state_read, is_state_call, is_state_word, is_length}
 use Rattle.ss_tables.specs.Members.{FieldTree, MethodTree, ConstructorTree, constructors_in, is_static}
 use Rattle.ss_tables.specs.Classes.{Declared, members_at, class_named, field_of, method_of, inherited_method, class_number, is_array_number, declared_place}
-use Rattle.ss_tables.specs.Types.{reference, array_type, written_type, class_of, element_type, nullable}
+use Rattle.ss_tables.specs.Types.{reference, array_type, written_type, class_of, element_type}
 use Rattle.ss_tables.specs.Scopes.{Local, Scope, local_named}
 
 -- ---- what stands before a dot
@@ -124,7 +125,8 @@ pub data Callee : Type 0 where
   AMethod : Declared MethodTree → Callee
   -- `Console.Write`, or `Console.WriteLine`, where it is a line
   APrint : Bool → Callee
-  -- a question about owners, or a state word that asks for a class, with the number of arguments that it takes
+  -- A question about owners, or a state word that asks for a class, with the number of arguments that it takes. That is 0 where it asks about what
+  -- isn't known.
   AWord : ℕ → Callee
   -- `base(..)`
   ABase : Callee
@@ -171,6 +173,11 @@ abbrev pub may_have_levels : Option Ty → Bool
 may_have_levels None = true
 may_have_levels (Some t) = has_levels t
 
+-- a question about the level of a value takes the name of a class; one about what isn't known takes nothing, and has no type
+abbrev pub level_callee : Option Ty → Callee
+level_callee None = AWord 0
+level_callee (Some t) = if has_levels t then AWord 1 else NoCallee
+
 -- what is called behind the dot: a static method of a class, or a method of an object; a question about a level is one about a reference
 abbrev pub member_callee : Scope → List ℕ → Receiver → Callee
 member_callee s n TheConsole = if is_print n then APrint (bytes_eq n (codes "WriteLine")) else NoCallee
@@ -178,7 +185,7 @@ member_callee s n TheOwner = if is_owner_word n then AWord (owner_count n) else 
 member_callee s n TheBase = if s.refuses_members || is_state_word n then NoCallee else kind_callee false (inherited_method s.classes s.class n)
 member_callee s n (AClass k) = if is_state_word n then NoCallee else kind_callee true (method_of s.classes k n)
 member_callee s n (AValue t) =
-    if is_state_call n then (if may_have_levels t then AWord 1 else NoCallee)
+    if is_state_call n then level_callee t
     else if is_state_read n then NoCallee
     else method_at s.classes n (option_and_then declared_place (option_and_then class_of t))
 
@@ -202,11 +209,15 @@ abbrev pub result_type : List ClassTree → Option TypeTree → Option Ty
 result_type cs None = None
 result_type cs (Some t) = written_type cs t
 
+-- the result of a question that takes so many arguments; one about what isn't known has none
+abbrev pub question_type : ℕ → Option Ty
+question_type n = if n == 0 then None else Some ty.Bool
+
 -- the result of a call; one that is refused has none
 abbrev pub call_type : List ClassTree → Callee → Option Ty
 call_type cs (AMethod m) = result_type cs m.member.result
 call_type cs (APrint is_line) = None
-call_type cs (AWord n) = Some ty.Bool
+call_type cs (AWord n) = question_type n
 call_type cs ABase = None
 call_type cs NoCallee = None
 

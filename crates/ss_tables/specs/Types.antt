@@ -40,10 +40,3 @@ element_type t =
     if is_array_number t
     then Some (kinds.element_type t)
     else None
-
--- the same with null
-abbrev pub nullable : Ty → Ty
-nullable ty.Int = ty.Int
-nullable ty.Bool = ty.Bool
-nullable ty.Null = ty.Null
-nullable (ty.Ref t non_null) = ty.Ref t false

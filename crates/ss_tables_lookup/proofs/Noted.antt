@@ -7,9 +7,9 @@ use Rattle.std.proofs.lemmas.List.Folds.{find_at}
 use Rattle.std.proofs.lemmas.Bool.{ltb-false, ltb-true}
 use Rattle.std.proofs.lemmas.Option.{slice_get_past}
 use Rattle.std.proofs.lemmas.Iterator.Adapters.{position_from-zero}
-use Rattle.ss_tables.specs.Classes.{or_else}
 use Rattle.std.specs.Str.{bytes_eq}
 use Rattle.std.specs.Map.{lookup}
+use Rattle.std.specs.Option.{option_or}
 use Rattle.ss_tables_lookup.specs.Places.{Places, places_from, places_of}
 use Rattle.ss_tables.specs.Named.{named_in, with_named}
 use Rattle.ss_tables_lookup.specs.Views.{names_in}
@@ -20,11 +20,11 @@ found_in_map {A} name (e ∷ es) = ap (λ (o : Option A). cond (bytes_eq name (s
 
 -- ---- the places of a list are the first ones
 
-or_none : (o : Option ℕ) → o ≡ or_else o None
+or_none : (o : Option ℕ) → o ≡ option_or o None
 or_none None = refl
 or_none (Some j) = refl
 
-or_some : (o other : Option ℕ) → is_some o ≡ true → o ≡ or_else o other
+or_some : (o other : Option ℕ) → is_some o ≡ true → o ≡ option_or o other
 or_some None other e = absurd cc
 or_some (Some j) other e = refl
 
@@ -32,40 +32,40 @@ or_some (Some j) other e = refl
 abbrev one : List ℕ → List ℕ → ℕ → Option ℕ
 one n m i = cond (bytes_eq n m) (Some i) None
 
-found_behind : (es : Places) (n m : List ℕ) (i : ℕ) → named_in (es ++ (m, i) ∷ []) n ≡ or_else (named_in es n) (one n m i)
+found_behind : (es : Places) (n m : List ℕ) (i : ℕ) → named_in (es ++ (m, i) ∷ []) n ≡ option_or (named_in es n) (one n m i)
 found_behind [] n m i = refl
 found_behind (e ∷ es) n m i = at (bytes_eq n e.0) (found_behind es n m i)
   where
-    at : (b : Bool) → named_in (es ++ (m, i) ∷ []) n ≡ or_else (named_in es n) (one n m i) → cond b (Some e.1) (named_in (es ++ (m, i) ∷ []) n) ≡ or_else (cond b (Some e.1) (named_in es n)) (one n m i)
+    at : (b : Bool) → named_in (es ++ (m, i) ∷ []) n ≡ option_or (named_in es n) (one n m i) → cond b (Some e.1) (named_in (es ++ (m, i) ∷ []) n) ≡ option_or (cond b (Some e.1) (named_in es n)) (one n m i)
     at true h = refl
     at false h = h
 
-found_before : (es : Places) (n m : List ℕ) (i : ℕ) → is_some (named_in es m) ≡ true → named_in es n ≡ or_else (named_in es n) (one n m i)
+found_before : (es : Places) (n m : List ℕ) (i : ℕ) → is_some (named_in es m) ≡ true → named_in es n ≡ option_or (named_in es n) (one n m i)
 found_before es n m i known = at (bytes_eq n m) (bytes_eq-Decides n m)
   where
-    at : (b : Bool) → Decides b (n ≡ m) → named_in es n ≡ or_else (named_in es n) (cond b (Some i) None)
+    at : (b : Bool) → Decides b (n ≡ m) → named_in es n ≡ option_or (named_in es n) (cond b (Some i) None)
     at true same = or_some (named_in es n) (Some i) (rw (same.0 refl) known)
     at false other = or_none (named_in es n)
 
-found_noted : (es : Places) (n m : List ℕ) (i : ℕ) → named_in (with_named es m i) n ≡ or_else (named_in es n) (one n m i)
+found_noted : (es : Places) (n m : List ℕ) (i : ℕ) → named_in (with_named es m i) n ≡ option_or (named_in es n) (one n m i)
 found_noted es n m i = at (is_some (named_in es m)) (λ e. found_before es n m i e)
   where
-    at : (b : Bool) → (b ≡ true → named_in es n ≡ or_else (named_in es n) (one n m i)) → named_in (cond b es (es ++ (m, i) ∷ [])) n ≡ or_else (named_in es n) (one n m i)
+    at : (b : Bool) → (b ≡ true → named_in es n ≡ option_or (named_in es n) (one n m i)) → named_in (cond b es (es ++ (m, i) ∷ [])) n ≡ option_or (named_in es n) (one n m i)
     at true h = h refl
     at false h = found_behind es n m i
 
-or_or : (o : Option ℕ) (b : Bool) (i : ℕ) (rest : Option ℕ) → or_else (or_else o (cond b (Some i) None)) rest ≡ or_else o (cond b (Some i) rest)
+or_or : (o : Option ℕ) (b : Bool) (i : ℕ) (rest : Option ℕ) → option_or (option_or o (cond b (Some i) None)) rest ≡ option_or o (cond b (Some i) rest)
 or_or None true i rest = refl
 or_or None false i rest = refl
 or_or (Some j) b i rest = refl
 
-found_from : {A : Type 0} (name : A → List ℕ) (n : List ℕ) (es : Places) (i : ℕ) (xs : List A) → named_in (places_from es i (map name xs)) n ≡ or_else (named_in es n) (position_from (λ x. bytes_eq n (name x)) i xs)
+found_from : {A : Type 0} (name : A → List ℕ) (n : List ℕ) (es : Places) (i : ℕ) (xs : List A) → named_in (places_from es i (map name xs)) n ≡ option_or (named_in es n) (position_from (λ x. bytes_eq n (name x)) i xs)
 found_from name n es i [] = or_none (named_in es n)
 found_from name n es i (x ∷ xs) =
     found_from name n (with_named es (name x) i) (suc i) xs
-    ∙ ap (λ o. or_else o (position_from (λ y. bytes_eq n (name y)) (suc i) xs)) (found_noted es n (name x) i)
+    ∙ ap (λ o. option_or o (position_from (λ y. bytes_eq n (name y)) (suc i) xs)) (found_noted es n (name x) i)
     ∙ or_or (named_in es n) (bytes_eq n (name x)) i (position_from (λ y. bytes_eq n (name y)) (suc i) xs)
-    ∙ ap (λ k. or_else (named_in es n) (cond (bytes_eq n (name x)) (Some i) (position_from (λ y. bytes_eq n (name y)) k xs))) (sym (add-one i))
+    ∙ ap (λ k. option_or (named_in es n) (cond (bytes_eq n (name x)) (Some i) (position_from (λ y. bytes_eq n (name y)) k xs))) (sym (add-one i))
 
 pub first_place : {A : Type 0} (name : A → List ℕ) (n : List ℕ) (xs : List A) → named_in (places_of (map name xs)) n ≡ position (λ x. bytes_eq n (name x)) xs
 first_place name n xs = found_from name n [] 0 xs ∙ sym (position_from-zero (λ x. bytes_eq n (name x)) xs)

@@ -1,7 +1,8 @@
 // Types with the numbers of classes, of which a program may have more than a core program can.
 
 ghost use Rattle.std.specs.Prelude.{◌≡◌, option_map};
-ghost use Rattle.ss_tables.specs.Types.{class_of, element_type, nullable};
+ghost use Rattle.ss_core.specs.Types.{nullable};
+ghost use Rattle.ss_tables.specs.Types.{class_of, element_type};
 ghost use Rattle.ss_tables_lookup.specs.Views.{type_of};
 
 use ss_core::ClassKind;

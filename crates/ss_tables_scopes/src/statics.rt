@@ -1,9 +1,9 @@
 // Static types of names and members, and what a call calls.
 
-ghost use Rattle.std.specs.Prelude.{◌≡◌, length, map, option_map, option_and_then, if◌then◌else◌};
+ghost use Rattle.std.specs.Prelude.{◌≡◌, length, map, option_map, option_and_then};
 ghost use Rattle.ss_tables.specs.Classes.{class_named, field_of, declared_place};
 ghost use Rattle.ss_ast.specs.Expressions.{type_tree, expr_tree, arguments};
-ghost use Rattle.ss_tables.specs.Statics.{is_member, is_known, class_or_value, name_receiver, type_of_field, unless_refused, name_type, field_type, member_type, read_type, AWord, NoCallee, TheConsole, TheOwner, method_callee, is_of_kind, kind_callee, name_callee, method_at, owner_count, has_levels, may_have_levels, member_callee, count, takes, called_with, result_type, call_type, params_of_first, constructor_params, new_type, reference_only, cast_type};
+ghost use Rattle.ss_tables.specs.Statics.{is_member, is_known, class_or_value, name_receiver, type_of_field, unless_refused, name_type, field_type, member_type, read_type, TheConsole, TheOwner, method_callee, is_of_kind, kind_callee, name_callee, method_at, owner_count, has_levels, may_have_levels, level_callee, member_callee, count, takes, called_with, result_type, question_type, call_type, params_of_first, constructor_params, new_type, reference_only, cast_type};
 ghost use Rattle.ss_tables.specs.Types.{class_of};
 ghost use Rattle.ss_tables_lookup.specs.Classes.{trees};
 ghost use Rattle.ss_tables.specs.Members.{is_static};
@@ -48,6 +48,7 @@ pub enum Callee<'p> {
     /// `Console.Write`, or `Console.WriteLine`, where it is a line.
     Print(bool),
     /// A question about owners, or a state word that asks for a class, with the number of arguments that it takes.
+    /// That is 0 where it asks about what isn't known.
     Word(usize),
     /// `base(..)`.
     Base,
@@ -308,9 +309,12 @@ pub fn may_have_levels(ty: Option<StaticType>) -> bool
 
 // A question about the level of a value.
 fn level_callee<'p>(ty: Option<StaticType>) -> Callee<'p>
-    ensures { callee_of result ≡ (if may_have_levels (option_map type_of ty) then AWord 1 else NoCallee) }
+    ensures { callee_of result ≡ level_callee (option_map type_of ty) }
 {
-    if may_have_levels(ty) {
+    let Some(ty) = ty else {
+        return Callee::Word(0);
+    };
+    if has_levels(ty) {
         Callee::Word(1)
     } else {
         Callee::Nothing
@@ -424,13 +428,24 @@ pub fn result_type(tables: &Tables<'_>, ty: &Option<TypeRef>) -> Option<StaticTy
     }
 }
 
+// The type of a question that takes so many arguments.
+fn question_type(taken: usize) -> Option<StaticType>
+    ensures { option_map type_of result ≡ question_type taken }
+{
+    if taken == 0 {
+        None
+    } else {
+        Some(StaticType::Bool)
+    }
+}
+
 /// The static type of a call.
 pub fn call_type(tables: &Tables<'_>, callee: Callee<'_>) -> Option<StaticType>
     ensures { option_map type_of result ≡ call_type (trees tables.now) (callee_of callee.entry) }
 {
     match callee {
         Callee::Method(_, method) => result_type(tables, &method.method.returns),
-        Callee::Word(_) => Some(StaticType::Bool),
+        Callee::Word(taken) => question_type(taken),
         Callee::Print(_) | Callee::Base | Callee::Nothing => None,
     }
 }

@@ -2,9 +2,10 @@
 
 ghost use Rattle.std.specs.Prelude.{◌≡◌, option_map, option_and_then};
 ghost use Rattle.ss_core.specs.declared.names.Place.{Place};
+ghost use Rattle.ss_core.specs.Types.{nullable};
 ghost use Rattle.ss_ast.specs.Expressions.{ExprTree, type_tree};
 ghost use Rattle.ss_ast.specs.Parts.{link_behind};
-ghost use Rattle.ss_tables.specs.Types.{class_of, element_type, nullable, written_type};
+ghost use Rattle.ss_tables.specs.Types.{class_of, element_type, written_type};
 ghost use Rattle.ss_tables.specs.Statics.{operation_type, cast_type, static};
 ghost use Rattle.ss_tables_lookup.specs.Classes.{trees};
 ghost use Rattle.ss_tables_lookup.specs.Views.{type_of};

@@ -1,9 +1,10 @@
 -- Numbers of a bank keep what they stand for, as it grows.
-use Rattle.std.proofs.Common.{◌≡◌, ◌*◌, List, [], ◌∷◌, length, refl, ◌∙◌, ap, arith}
+use Rattle.std.proofs.Common.{◌≡◌, ◌*◌, List, [], ◌∷◌, length, Option, Some, None, refl, ◌∙◌, ap, arith}
 use Rattle.ss_core.specs.Tree.{ClassTree}
 use Rattle.ss_terms.specs.declared.forms.TermId.{TermId}
 use Rattle.ss_terms.specs.declared.forms.FormulaId.{FormulaId}
 use Rattle.ss_terms.specs.Forms.{Forms, term_at, terms_at, formula_at, formulas_at, HasTerm, HasTerms, HasFormula, HasFormulas, IsGrown, IsBankOf}
+use Rattle.ss_terms.specs.Numbered.{HasTermOf}
 use Rattle.ss_terms.proofs.Trees.{AreTermsBelow-more, AreBelow-more}
 
 pub IsGrown-refl : (b : Forms) → IsGrown b b
@@ -23,6 +24,10 @@ IsBankOf-grown cs a b g e = g.same_fields ∙ e
 
 pub HasTerm-grown : (a b : Forms) → IsGrown a b → (t : TermId) → HasTerm a t → HasTerm b t
 HasTerm-grown a b g t h = omega (arith, g.more_terms, h)
+
+pub HasTermOf-grown : (a b : Forms) → IsGrown a b → (o : Option TermId) → HasTermOf a o → HasTermOf b o
+HasTermOf-grown a b g None h = tt
+HasTermOf-grown a b g (Some t) h = HasTerm-grown a b g t h
 
 pub HasTerms-grown : (a b : Forms) → IsGrown a b → (ts : List TermId) → HasTerms a ts → HasTerms b ts
 HasTerms-grown a b g ts h = AreTermsBelow-more (length a.terms) (length b.terms) (omega (arith, g.more_terms)) ts h

@@ -8,3 +8,4 @@ pub mod Trees
 pub mod Banks
 pub mod Fronts
 pub mod Grown
+pub mod Longer

@@ -55,7 +55,7 @@ number_Decides : (n m : ℤ) → Decides (int_eq n m) (n ≡ m)
 number_Decides n m = search rules
 
 -- the derived test of functions, which has too many cases for one search
-abbrev is_same_symbol : Symbol → Symbol → Bool
+abbrev pub is_same_symbol : Symbol → Symbol → Bool
 is_same_symbol = (symbol_eq.ghosts).eq
 
 from_same : (f g : Symbol) → is_same_symbol f g ≡ true → f ≡ g
@@ -119,10 +119,10 @@ same_as_itself (symbol.New i) = eq-eqb i i refl
 same_as_itself (symbol.NewArray i) = eq-eqb i i refl
 same_as_itself symbol.MakeReady = refl
 
-symbol_Decides : (a b : Symbol) → Decides ((symbol_eq.ghosts).eq a b) (a ≡ b)
+pub symbol_Decides : (a b : Symbol) → Decides ((symbol_eq.ghosts).eq a b) (a ≡ b)
 symbol_Decides a b = (from_same a b, λ e. subst (λ x. is_same_symbol a x ≡ true) e (same_as_itself a))
 
-predicate_Decides : (a b : Predicate) → Decides ((predicate_eq.ghosts).eq a b) (a ≡ b)
+pub predicate_Decides : (a b : Predicate) → Decides ((predicate_eq.ghosts).eq a b) (a ≡ b)
 predicate_Decides a b = search rules
 
 terms_Decides : (ts us : List TermId) → Decides (pointwise (term_id_eq.ghosts).eq ts us) (ts ≡ us)

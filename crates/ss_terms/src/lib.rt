@@ -15,4 +15,4 @@ pub use bank::{Bank, BankMark};
 pub use forms::{Formula, FormulaId, Predicate, Symbol, Term, TermId};
 pub use lists::{Arguments, Parts};
 pub use obligation::Obligation;
-pub use sorts::field_sorts;
+pub use sorts::{field_sorts, is_bound_sort, same_sort, sort_of_type};

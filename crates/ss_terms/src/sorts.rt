@@ -34,7 +34,8 @@ fn add_fields(sorts: &mut Vec<Sort>, class: &Class) -> Result<(), AllocError>
     Ok(())
 }
 
-fn sort_of_type(ty: Ty) -> Sort
+/// The sort of the values of a type.
+pub fn sort_of_type(ty: Ty) -> Sort
     ensures { result ≡ tree.sort_of_type ty }
 {
     match ty {
@@ -45,7 +46,8 @@ fn sort_of_type(ty: Ty) -> Sort
     }
 }
 
-pub(crate) fn same_sort(x: Sort, y: Sort) -> bool
+/// Whether two sorts are the same.
+pub fn same_sort(x: Sort, y: Sort) -> bool
     ensures { result ≡ tree.same_sort x y }
 {
     x == y
@@ -57,8 +59,8 @@ fn same_sorts(sorts: &[Sort], expected: &[Sort]) -> bool
     sorts == expected
 }
 
-// An object or a whole number.
-fn is_bound_sort(sort: Sort) -> bool
+/// Whether a quantifier binds names of the sort: an object or a whole number.
+pub fn is_bound_sort(sort: Sort) -> bool
     ensures { result ≡ logic.is_bound_sort sort }
 {
     same_sort(sort, Sort::Rest) || same_sort(sort, Sort::Whole)
@@ -99,8 +101,8 @@ fn is_object(sorts: &[Sort]) -> bool
     same_sorts(sorts, &[Sort::Store, Sort::Rest])
 }
 
-// A store, an object and a value of this sort.
-fn is_written(sorts: &[Sort], value: Sort) -> bool
+// A store, an object, and one more of this sort.
+fn is_object_with(sorts: &[Sort], value: Sort) -> bool
     ensures { result ≡ tree.same_sorts sorts.now (sort.Store ∷ sort.Rest ∷ value ∷ []) }
 {
     same_sorts(sorts, &[Sort::Store, Sort::Rest, value])
@@ -135,19 +137,20 @@ pub(crate) fn takes(fields: &[Sort], symbol: Symbol, sorts: &[Sort]) -> bool
         Symbol::Quotient => are_numbers(sorts),
         Symbol::Remainder => are_numbers(sorts),
         Symbol::Field(f) => has_field(fields, f) && is_object(sorts),
-        Symbol::Element(sort) => is_written(sorts, Sort::Whole) && !same_sort(sort, Sort::Store),
+        Symbol::Element(sort) => is_object_with(sorts, Sort::Whole)
+            && !same_sort(sort, Sort::Store),
         Symbol::Length => same_sorts(sorts, &[Sort::Rest]),
         Symbol::TypeOf => same_sorts(sorts, &[Sort::Rest]),
         Symbol::Level => is_object(sorts),
         Symbol::Owner => is_object(sorts),
         Symbol::Pair => same_sorts(sorts, &[Sort::Rest, Sort::Rest]),
         Symbol::Next => same_sorts(sorts, &[Sort::Store]),
-        Symbol::Set(f) => has_field(fields, f) && is_written(sorts, field_sort(fields, f)),
+        Symbol::Set(f) => has_field(fields, f) && is_object_with(sorts, field_sort(fields, f)),
         Symbol::Put => is_any_put(sorts),
         Symbol::Unpack(_) => is_object(sorts),
         Symbol::Pack(_) => is_object(sorts),
-        Symbol::Capture(_) => is_written(sorts, Sort::Rest),
-        Symbol::Join => is_written(sorts, Sort::Rest),
+        Symbol::Capture(_) => is_object_with(sorts, Sort::Rest),
+        Symbol::Join => is_object_with(sorts, Sort::Rest),
         Symbol::New(_) => same_sorts(sorts, &[Sort::Store]),
         Symbol::NewArray(_) => same_sorts(sorts, &[Sort::Store, Sort::Whole]),
         Symbol::MakeReady => is_object(sorts),

@@ -14,18 +14,9 @@ use Rattle.ss_terms.specs.declared.forms.Term.TheVariants.{App as AppForm}
 use Rattle.ss_terms.specs.declared.forms.Formula.TheVariants.{And as AndForm, Or as OrForm}
 use Rattle.ss_terms.specs.Forms.{Forms, symbol_of, IsTermForm, IsFormulaForm, term_at, terms_at, formula_at, formulas_at, HasTerm, HasTerms, HasFormula, HasFormulas, AreTermsBelow, AreBelow, IsGrown}
 use Rattle.ss_terms.proofs.Grown.{terms_at-grown, formulas_at-grown}
+use Rattle.ss_terms.proofs.Tested.{AreTermsBelow-get, AreBelow-get}
 
 -- ---- lists of numbers
-
-pub AreTermsBelow-get : (n : ℕ) (ts : List TermId) (k : ℕ) (d : TermId) → AreTermsBelow n ts → k < length ts → (get_or ts k d).0 < n
-AreTermsBelow-get n [] k d h l = absurd (omega arith)
-AreTermsBelow-get n (t ∷ ts) zero d h l = h.0
-AreTermsBelow-get n (t ∷ ts) (suc k) d h l = AreTermsBelow-get n ts k d h.1 (omega arith)
-
-pub AreBelow-get : (n : ℕ) (fs : List FormulaId) (k : ℕ) (d : FormulaId) → AreBelow n fs → k < length fs → (get_or fs k d).0 < n
-AreBelow-get n [] k d h l = absurd (omega arith)
-AreBelow-get n (f ∷ fs) zero d h l = h.0
-AreBelow-get n (f ∷ fs) (suc k) d h l = AreBelow-get n fs k d h.1 (omega arith)
 
 pub AreTermsBelow-push : (n : ℕ) (ts : List TermId) (t : TermId) → AreTermsBelow n ts → t.0 < n → AreTermsBelow n (ts ++ t ∷ [])
 AreTermsBelow-push n [] t h l = (l, tt)

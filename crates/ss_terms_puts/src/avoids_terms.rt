@@ -2,13 +2,12 @@
 
 ghost use Rattle.std.specs.Prelude.{◌≡◌, ◌≤◌, length, IfOk};
 ghost use Rattle.std.specs.List.{list_all};
-ghost use Rattle.ss_logic.specs.Terms as tree;
 ghost use Rattle.ss_logic.specs.Formulas as logic;
 ghost use Rattle.ss_terms.specs.Forms.{symbol_of, term_at, HasTerm, AreTermsBelow};
 ghost use Rattle.ss_terms_puts.specs.Entries.{term_entry, AreTermEntries};
 
 use ss_logic::Sort;
-use ss_terms::{Bank, Symbol, Term, TermId};
+use ss_terms::{Bank, Symbol, Term, TermId, same_sort};
 use std::alloc::{AllocError, Global};
 
 /// A constant.
@@ -16,12 +15,6 @@ use std::alloc::{AllocError, Global};
 pub(crate) struct Constant {
     pub(crate) sort: Sort,
     pub(crate) number: usize,
-}
-
-pub(crate) fn same_sort(x: Sort, y: Sort) -> bool
-    ensures { result ≡ tree.same_sort x y }
-{
-    x == y
 }
 
 // Whether the function is the constant.

@@ -11,9 +11,9 @@ ghost use Rattle.ss_terms_puts.specs.Entries.{constant_of};
 ghost use Rattle.ss_terms_puts.specs.Rising.{are_rising};
 
 use crate::avoids_formulas::{all_formulas, formula_entries};
-use crate::avoids_terms::{Constant, all_terms, same_sort, term_entries};
+use crate::avoids_terms::{Constant, all_terms, term_entries};
 use ss_logic::Sort;
-use ss_terms::{Bank, FormulaId, Symbol, Term, TermId};
+use ss_terms::{Bank, FormulaId, Symbol, Term, TermId, is_bound_sort, same_sort};
 use std::alloc::{AllocError, Global};
 
 // The constant that a term is.
@@ -39,13 +39,6 @@ fn constant_alone(bank: &Bank, constant: Constant, ts: &[TermId]) -> Option<Cons
         [] => Some(constant),
         _ => None,
     }
-}
-
-// Whether a quantifier binds names of the sort.
-fn is_bound_sort(sort: Sort) -> bool
-    ensures { result ≡ logic.is_bound_sort sort }
-{
-    same_sort(sort, Sort::Rest) || same_sort(sort, Sort::Whole)
 }
 
 /// Whether the terms are constants of these sorts, one by one, which a quantifier binds.

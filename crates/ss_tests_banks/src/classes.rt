@@ -129,7 +129,7 @@ fn first_not_a_field(table: &Classes, rows: &[(u32, ClassId, &str)]) -> Option<u
 }
 
 #[test]
-fn a_small_table(rt: HostRuntime) -> Result<(), Fail> {
+fn a_small_chain(rt: HostRuntime) -> Result<(), Fail> {
     let table = table(rt.alloc(), &[])?;
     let below = first_not_below(
         &table,
@@ -163,6 +163,13 @@ fn a_small_table(rt: HostRuntime) -> Result<(), Fail> {
             (A_ARRAY, OBJECT_ARRAY, false),
         ],
     );
+    assert_eq!(rt; [below, arrays], [None, None]);
+    Ok(())
+}
+
+#[test]
+fn a_small_table(rt: HostRuntime) -> Result<(), Fail> {
+    let table = table(rt.alloc(), &[])?;
     let declared = first_not_declared(
         &table,
         &[
@@ -184,7 +191,7 @@ fn a_small_table(rt: HostRuntime) -> Result<(), Fail> {
             (4, NONE, ""),
         ],
     );
-    assert_eq!(rt; [below, arrays, declared, fields], [None, None, None, None]);
+    assert_eq!(rt; [declared, fields], [None, None]);
     Ok(())
 }
 

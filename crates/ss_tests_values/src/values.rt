@@ -157,7 +157,7 @@ fn answer(
 }
 
 #[test]
-fn reads_casts_and_words(rt: HostRuntime) -> Result<(), Fail> {
+fn reads_and_lengths(rt: HostRuntime) -> Result<(), Fail> {
     for (is_old, column, question, x, wanted) in [
         (false, 10, Question::Field, 0, Ok(Value::Int(6))),
         (true, 10, Question::Field, 0, Ok(Value::Int(5))),
@@ -186,6 +186,16 @@ fn reads_casts_and_words(rt: HostRuntime) -> Result<(), Fail> {
             undefined(Kind::Null, 17),
         ),
         (false, 16, Question::Length, 3, undefined(Kind::Null, 16)),
+    ] {
+        let found = answer(rt.alloc(), is_old, column, question, x)?;
+        assert_eq!(rt; found, wanted);
+    }
+    Ok(())
+}
+
+#[test]
+fn casts_and_words(rt: HostRuntime) -> Result<(), Fail> {
+    for (is_old, column, question, x, wanted) in [
         (
             false,
             20,

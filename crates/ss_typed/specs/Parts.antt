@@ -1,11 +1,16 @@
 -- What the parts of a chain and of a path make of what stands before them.
 use Rattle.std.specs.Prelude.{List, map}
 use Rattle.ss_core.specs.declared.names.Place.{Place}
+use Rattle.ss_core.specs.Parts.{no_place}
 use Rattle.ss_typed.specs.declared.expr.TypedLink.{TypedLink}
 use Rattle.ss_typed.specs.declared.expr.TypedStep.{TypedStep}
 use Rattle.ss_typed.specs.declared.expr.TypedExpr.TheFolds.{fold-TypedLink, fold-TypedStep}
-use Rattle.ss_typed.specs.Tree.{ExprTree}
+use Rattle.ss_typed.specs.Tree.{ExprTree, NullOf}
 use Rattle.ss_typed.specs.View.{Behind, grouped, expr_step, link_step, step_step}
+
+-- an expression of which nothing is asked
+abbrev pub nothing : ExprTree
+nothing = NullOf no_place
 
 abbrev pub link_behind : TypedLink → Behind
 link_behind = fold-TypedLink ExprTree Behind Behind expr_step link_step step_step

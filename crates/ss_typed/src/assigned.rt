@@ -110,7 +110,7 @@ fn note_all(found: &mut Vec<usize>, stmts: &[TypedStmt]) -> Result<(), AllocErro
     Ok(())
 }
 
-/// The locals that the statement assigns anywhere inside.
+/// The locals that the statement assigns anywhere inside. An error is want of memory.
 pub fn assigned_within(alloc: Global, body: &TypedStmt) -> Result<Vec<usize>, AllocError>
     ensures { IfOk result (λ v. v.items ≡ assigned (stmt_of body.now)) }
 {
@@ -119,7 +119,7 @@ pub fn assigned_within(alloc: Global, body: &TypedStmt) -> Result<Vec<usize>, Al
     Ok(found)
 }
 
-/// The locals that are assigned where a loop repeats the statement and, where it is a `for`, its step.
+/// The locals that are assigned where a loop repeats the statement and, where it is a `for`, its step. An error is want of memory.
 pub fn assigned_in_loop(
     alloc: Global,
     body: &TypedStmt,
@@ -133,7 +133,7 @@ pub fn assigned_in_loop(
     Ok(found)
 }
 
-/// The locals that the block assigns anywhere inside.
+/// The locals that the block assigns anywhere inside. An error is want of memory.
 pub fn assigned_in_block(alloc: Global, inner: &TypedBlock) -> Result<Vec<usize>, AllocError>
     ensures { IfOk result (λ v. v.items ≡ assigned_in (block inner.now)) }
 {

@@ -3,7 +3,7 @@
 use ss_core::{BodyId, ClassId, FieldId, Operator, OwnerTest, Place, Quantifier, StateWord, Ty};
 
 /// An expression in which names are numbers. What a name stands for has its type beside it, so the static type of each part
-/// is known; a call of a method without a result has none.
+/// is known. A call of a method without a result has none.
 #[cycle(expr)]
 #[derive(Drop)]
 pub enum TypedExpr {

@@ -1,5 +1,5 @@
-//! Resolved programs: the trees of a source in which names are numbers and the type of every part is known, before implied
-//! steps are written out.
+//! Resolved programs: the trees of a source in which names are numbers and the type of every part is known. Implied steps
+//! aren't written out yet.
 #![tactic(auto)]
 
 mod assigned;
@@ -17,7 +17,7 @@ mod types;
 pub use assigned::{assigned_in_block, assigned_in_loop, assigned_within};
 pub use body::{TypedBase, TypedBody, TypedFlags, TypedModifies, TypedParam};
 pub use expr::{TypedExpr, TypedLink, TypedStep};
-pub use lookups::{body_at, constructor_of, members_of};
+pub use lookups::{body_at, class_at, constructor_of, members_in, members_of};
 pub use mentions::mentions_this;
 pub use program::{Typed, TypedClass, TypedField, TypedInvariant};
 pub use shapes::{has_base, is_base, is_this, is_true, place_of};

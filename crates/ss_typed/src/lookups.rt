@@ -1,12 +1,13 @@
 // What is looked up in a resolved program.
 
 ghost use Rattle.std.specs.Prelude.{◌≡◌, option_map, slice_get};
+ghost use Rattle.ss_core.specs.View.{class_of};
 ghost use Rattle.ss_typed.specs.View.{body, members, typed};
 ghost use Rattle.ss_typed.specs.Lookups as asked;
 
 use crate::body::TypedBody;
 use crate::program::{Typed, TypedClass};
-use ss_core::{BodyId, ClassId};
+use ss_core::{BodyId, Class, ClassId};
 
 /// The written body of this number.
 pub fn body_at(program: &Typed, number: BodyId) -> Option<&TypedBody>
@@ -15,8 +16,15 @@ pub fn body_at(program: &Typed, number: BodyId) -> Option<&TypedBody>
     program.bodies.get(number.0 as usize)
 }
 
-// What stands at this place of the list.
-fn members_in(program: &Typed, place: usize) -> Option<&TypedClass>
+/// The entry at this place of the table of classes.
+pub fn class_at(program: &Typed, place: usize) -> Option<&Class>
+    ensures { option_map (λ c. class_of c.now) result ≡ slice_get (typed program.now).classes place }
+{
+    program.classes.list.get(place)
+}
+
+/// What the class at this place has beside its entry.
+pub fn members_in(program: &Typed, place: usize) -> Option<&TypedClass>
     ensures { option_map (λ m. members m.now) result ≡ slice_get (typed program.now).members place }
 {
     program.members.get(place)

@@ -21,8 +21,8 @@ pub struct TypedInvariant {
     pub condition: TypedExpr,
 }
 
-/// What a class has beside its entry in the table of classes: the place of its name, its constructor where one is written, its
-/// fields in the order of the table, and its invariants.
+/// What a class has beside its entry in the table of classes. The place is that of its name, and the fields stand in the order of
+/// the table. It has a constructor only where one is written.
 #[derive(Drop)]
 pub struct TypedClass {
     pub place: Place,
@@ -31,8 +31,8 @@ pub struct TypedClass {
     pub invariants: Vec<TypedInvariant>,
 }
 
-/// A resolved program. Its classes have no invariants, and their tables name written bodies: of a method that a class inherits,
-/// the body of the nearest class above that declares it. The bodies are numbered in the order of the text's classes, in each the
+/// A resolved program. Its classes have no invariants, and their tables name written bodies. Of an inherited method that is the
+/// body of the nearest class above that declares it. The bodies are numbered in the order of the text's classes, in each the
 /// constructor first, then the methods in order of declaration.
 #[derive(Drop)]
 pub struct Typed {

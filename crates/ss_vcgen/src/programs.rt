@@ -93,7 +93,8 @@ pub struct Positions {
     pub located: Vec<Located>,
 }
 
-/// The same, and where the statements stand to which the obligations of these numbers belong. The numbers rise. An error is want of memory.
+/// The obligations of a program, and where the statements stand to which those of these numbers belong. The numbers, from 0, come in rising
+/// order. An error is want of memory.
 pub fn locate(alloc: Global, core: &Core, numbers: Vec<usize>) -> Result<Positions, AllocError>
     requires { IsWithinLimits (view.classes core.now.classes) }
     ensures exact { IfOk result (λ p. trees p.obligations ≡ tree.obligations (view.core core.now)) }

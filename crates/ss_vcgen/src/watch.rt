@@ -4,7 +4,7 @@ use ss_terms::TermId;
 use ss_vcgen_builder::Builder;
 use std::alloc::{AllocError, Global};
 
-/// Where a statement stands: what the locals stand for by their numbers, a local without a value for nothing, and the store.
+/// Where a statement stands: the term of each local that has a value there, by the local's number, and the term of the store.
 #[derive(Drop)]
 pub struct Located {
     pub locals: Vec<Option<TermId>>,

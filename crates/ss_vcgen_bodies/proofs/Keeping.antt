@@ -5,15 +5,16 @@ use Rattle.std.proofs.lemmas.List.{append-nil}
 use Rattle.std.proofs.lemmas.Option.{slice_get-map}
 use Rattle.ss_core.specs.declared.names.Ty.{Ty}
 use Rattle.ss_core.specs.declared.names.Ty.TheVariants as ty
-use Rattle.ss_core.specs.Types.{is_non_null}
+use Rattle.ss_core.specs.Types.{is_non_null, nullable}
 use Rattle.ss_logic.specs.Terms.{Term}
 use Rattle.ss_terms.specs.declared.forms.TermId.{TermId}
 use Rattle.ss_terms.specs.Forms.{Forms}
 use Rattle.ss_vcgen_heaps.specs.Positions.{Walk}
 use Rattle.ss_vcgen_heaps.specs.Obligations.{stays_of_type, types_from, argument_types_from}
 use Rattle.ss_vcgen_heaps.specs.Contracts.{is_of_type}
-use Rattle.ss_vcgen_builder.specs.Builder.{local_at, locals_at, HasLocal, HasLocals}
-use Rattle.ss_vcgen_bodies.specs.Words.{flat, nullable, not_lost, kept_type, entry_type}
+use Rattle.ss_vcgen_builder.specs.Builder.{local_at, locals_at, HasLocals}
+use Rattle.ss_terms.specs.Numbered.{HasTermOf}
+use Rattle.ss_vcgen_bodies.specs.Words.{flat, not_lost, kept_type, entry_type}
 
 -- ---- what is left of a list
 
@@ -42,10 +43,10 @@ local_found b ls x = flat_at (slice_get ls x) ∙ ap flat (sym (slice_get-map (l
     flat_at None = refl
     flat_at (Some l) = refl
 
-pub HasLocal-found : (b : Forms) (ls : List (Option TermId)) (x : ℕ) → HasLocals b ls → HasLocal b (flat (slice_get ls x))
-HasLocal-found b [] x h = tt
-HasLocal-found b (l ∷ ls) zero h = h.0
-HasLocal-found b (l ∷ ls) (suc x) h = HasLocal-found b ls x h.1
+pub HasTermOf-found : (b : Forms) (ls : List (Option TermId)) (x : ℕ) → HasLocals b ls → HasTermOf b (flat (slice_get ls x))
+HasTermOf-found b [] x h = tt
+HasTermOf-found b (l ∷ ls) zero h = h.0
+HasTermOf-found b (l ∷ ls) (suc x) h = HasTermOf-found b ls x h.1
 
 -- the type with null, and that it isn't null
 pub stays_is : (asks_ready : Bool) (s : Term) (t : Ty) (before now : Term) → is_of_type asks_ready s (nullable t) now ++ not_lost (is_non_null t) before now ≡ stays_of_type asks_ready s t before now

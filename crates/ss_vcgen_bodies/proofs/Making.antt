@@ -6,8 +6,9 @@ use Rattle.ss_logic.specs.Formulas.{Formula}
 use Rattle.ss_logic.specs.Express.{Meant}
 use Rattle.ss_terms.specs.declared.forms.TermId.{TermId}
 use Rattle.ss_terms.specs.declared.forms.FormulaId.{FormulaId}
-use Rattle.ss_terms.specs.Forms.{Forms, term_at, terms_at, formula_at, formulas_at, HasTerm, HasTerms, HasFormulas, IsGrown}
+use Rattle.ss_terms.specs.Forms.{Forms, term_at, terms_at, formula_at, formulas_at, HasTerms, HasFormulas, IsGrown}
 use Rattle.ss_terms.proofs.Grown.{IsGrown-refl, IsGrown-then, HasTerms-grown, HasFormulas-grown}
+use Rattle.ss_terms.proofs.Longer.{HasTerms-append}
 use Rattle.ss_vcgen_heaps.specs.Positions.{Position}
 use Rattle.ss_vcgen_express.specs.Numbers.{IsTerm, IsFormula, AreFormulas}
 use Rattle.ss_vcgen_builder.specs.declared.builder.Builder.{Builder}
@@ -21,10 +22,6 @@ use Rattle.ss_vcgen_statements.proofs.Steps.{stays, stays_then, no_formulas, for
 pub HasFormulas-append : (b : Forms) (fs gs : List FormulaId) → HasFormulas b fs → HasFormulas b gs → HasFormulas b (fs ++ gs)
 HasFormulas-append b [] gs h k = k
 HasFormulas-append b (f ∷ fs) gs h k = (h.0, HasFormulas-append b fs gs h.1 k)
-
-pub HasTerms-append : (b : Forms) (ts us : List TermId) → HasTerms b ts → HasTerms b us → HasTerms b (ts ++ us)
-HasTerms-append b [] us h k = k
-HasTerms-append b (t ∷ ts) us h k = (h.0, HasTerms-append b ts us h.1 k)
 
 pub HasTerms-take : (b : Forms) (n : ℕ) (ts : List TermId) → HasTerms b ts → HasTerms b (take n ts)
 HasTerms-take b zero ts h = tt

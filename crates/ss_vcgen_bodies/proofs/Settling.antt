@@ -6,8 +6,9 @@ use Rattle.ss_core.specs.View.{expr, exprs}
 use Rattle.ss_core.specs.Tree.{ExprTree}
 use Rattle.ss_logic.specs.Express.{One}
 use Rattle.ss_terms.specs.declared.forms.TermId.{TermId}
-use Rattle.ss_terms.specs.Forms.{Forms, term_at, HasTerm, HasTerms, IsGrown}
+use Rattle.ss_terms.specs.Forms.{Forms, term_at, HasTerms, IsGrown}
 use Rattle.ss_terms.proofs.Grown.{IsGrown-then, HasTerms-grown}
+use Rattle.ss_terms.proofs.Longer.{HasTerms-push}
 use Rattle.ss_vcgen_heaps.specs.Positions.{Walk, meant_at, settled, term_for}
 use Rattle.ss_vcgen_heaps.specs.Obligations.{settle_all, arguments_settled}
 use Rattle.ss_vcgen_express.specs.Numbers.{IsTerm}
@@ -16,10 +17,6 @@ use Rattle.ss_vcgen_builder.specs.Builder.{position_at, IsFine, Becomes}
 use Rattle.ss_vcgen_contracts.specs.Views.{ones_at, AreOnes}
 use Rattle.ss_vcgen_bodies.specs.CallWords.{argument_sort}
 use Rattle.ss_vcgen_statements.proofs.Steps.{Along, none_along, along_on, all_along}
-
-pub HasTerms-push : (b : Forms) (ts : List TermId) (t : TermId) → HasTerms b ts → HasTerm b t → HasTerms b (ts ++ t ∷ [])
-HasTerms-push b [] t h at = (at, tt)
-HasTerms-push b (u ∷ ts) t h at = (h.0, HasTerms-push b ts t h.1 at)
 
 module _ (s : Builder) (w : Forms → Walk) (es : List ExprTree) where
   -- the arguments before `rest` have these terms

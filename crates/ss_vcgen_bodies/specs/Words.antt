@@ -3,7 +3,6 @@ use Rattle.std.specs.Prelude.{ℕ, ◌+◌, List, [], ◌∷◌, ◌++◌, map, 
 use Rattle.ss_core.specs.declared.names.Kind.TheVariants as kind
 use Rattle.ss_core.specs.declared.names.Place.{Place}
 use Rattle.ss_core.specs.declared.names.Ty.{Ty}
-use Rattle.ss_core.specs.declared.names.Ty.TheVariants as ty
 use Rattle.ss_core.specs.Tree.{ClassTree, ExprTree, ExposedTree, StmtTree}
 use Rattle.ss_core.specs.Chain.{above}
 use Rattle.ss_store_rules.specs.Locals.{local_types}
@@ -74,13 +73,6 @@ kept_type w s x t before now = []
 abbrev pub entry_type : Walk → Term → ℕ → Ty → Option Term → List Formula
 entry_type w s x t (Some u) = is_of_type (is_asked_ready w x) s t u
 entry_type w s x t None = []
-
--- the type, with null
-abbrev pub nullable : Ty → Ty
-nullable ty.Int = ty.Int
-nullable ty.Bool = ty.Bool
-nullable ty.Null = ty.Null
-nullable (ty.Ref t non_null) = ty.Ref t false
 
 -- it isn't null now, if it wasn't before
 abbrev pub not_lost : Bool → Term → Term → List Formula

@@ -6,12 +6,13 @@ ghost use Rattle.ss_logic.specs.Express.{or_of};
 ghost use Rattle.ss_terms.specs.Forms.{Forms, term_at, HasTerm};
 ghost use Rattle.ss_vcgen_heaps.specs.Obligations as spec;
 ghost use Rattle.ss_vcgen_express.specs.Numbers.{IsFormula, AreFormulas};
-ghost use Rattle.ss_vcgen_builder.specs.Builder.{position_at, local_at, locals_at, walk_at, HasLocal, HasLocals, IsFine};
+ghost use Rattle.ss_vcgen_builder.specs.Builder.{position_at, local_at, locals_at, walk_at, HasLocals, IsFine};
+ghost use Rattle.ss_terms.specs.Numbered.{HasTermOf};
 ghost use Rattle.ss_vcgen_statements.specs.Words.{Stays};
-ghost use Rattle.ss_vcgen_bodies.specs.Words.{flat, nullable, kept_type, entry_type, not_lost};
+ghost use Rattle.ss_vcgen_bodies.specs.Words.{flat, kept_type, entry_type, not_lost};
 
 use crate::type_said;
-use ss_core::{Ty, is_non_null};
+use ss_core::{Ty, is_non_null, nullable};
 use ss_terms::{FormulaId, TermId};
 use ss_vcgen_builder::{Builder, Walk};
 use ss_vcgen_express::Saying;
@@ -95,21 +96,6 @@ fn not_lost(
     }
 }
 
-// The type, with null.
-fn nullable(ty: Ty) -> Ty
-    ensures { result ≡ nullable ty }
-{
-    match ty {
-        Ty::Int => Ty::Int,
-        Ty::Bool => Ty::Bool,
-        Ty::Null => Ty::Null,
-        Ty::Ref { class, .. } => Ty::Ref {
-            class,
-            non_null: false,
-        },
-    }
-}
-
 // The value now is of the type, or null. Where null isn't of the type, it isn't null if the value before wasn't.
 fn stays_of_type(
     builder: &mut Builder,
@@ -152,7 +138,7 @@ fn kept_since(
     requires fine { IsFine builder.old }
     requires store { HasTerm builder.old.bank store }
     requires before { HasTerm builder.old.bank before }
-    requires now { HasLocal builder.old.bank local.term }
+    requires now { HasTermOf builder.old.bank local.term }
     ensures at { IfOk result (λ v. AreFormulas builder.new.bank v.items (λ b. kept_type (walk_at b walk.now) (term_at b store) local.number local.ty (Some (term_at b before)) (local_at b local.term))) }
     ensures stays { IfOk result (λ v. Stays builder.old builder.new) }
 {
@@ -173,8 +159,8 @@ fn kept_type(
 ) -> Result<Vec<FormulaId>, AllocError>
     requires fine { IsFine builder.old }
     requires store { HasTerm builder.old.bank store }
-    requires before { HasLocal builder.old.bank before }
-    requires now { HasLocal builder.old.bank local.term }
+    requires before { HasTermOf builder.old.bank before }
+    requires now { HasTermOf builder.old.bank local.term }
     ensures at { IfOk result (λ v. AreFormulas builder.new.bank v.items (λ b. kept_type (walk_at b walk.now) (term_at b store) local.number local.ty (local_at b before) (local_at b local.term))) }
     ensures stays { IfOk result (λ v. Stays builder.old builder.new) }
 {
@@ -221,7 +207,7 @@ fn entry_type(
 ) -> Result<Vec<FormulaId>, AllocError>
     requires fine { IsFine builder.old }
     requires store { HasTerm builder.old.bank store }
-    requires now { HasLocal builder.old.bank local.term }
+    requires now { HasTermOf builder.old.bank local.term }
     ensures at { IfOk result (λ v. AreFormulas builder.new.bank v.items (λ b. entry_type (walk_at b walk.now) (term_at b store) local.number local.ty (local_at b local.term))) }
     ensures stays { IfOk result (λ v. Stays builder.old builder.new) }
 {

@@ -16,7 +16,7 @@ use Rattle.ss_terms.specs.declared.forms.FormulaId.{FormulaId}
 use Rattle.ss_terms.specs.Forms.{Forms, term_at, formula_at, formulas_at, HasTerm, HasFormula, IsGrown}
 use Rattle.ss_terms.proofs.Grown.{IsGrown-refl, IsGrown-then, HasTerm-grown, HasFormula-grown, HasFormulas-grown, IsBankOf-grown}
 use Rattle.ss_vcgen_express.specs.Numbers.{IsTerm, IsFormula}
-use Rattle.ss_vcgen_express.proofs.Grown.{HasFormulas-push}
+use Rattle.ss_terms.proofs.Longer.{HasFormulas-push}
 use Rattle.ss_vcgen_known.specs.declared.known.Known.{Known}
 use Rattle.ss_vcgen_known.specs.Views.{known_of}
 use Rattle.ss_vcgen_heaps.specs.Positions as spec
@@ -27,7 +27,8 @@ use Rattle.ss_vcgen_builder.specs.declared.builder.Counters.{Counters}
 use Rattle.ss_vcgen_builder.specs.declared.builder.Listed.{Listed}
 use Rattle.ss_vcgen_builder.specs.declared.builder.Walk.{Walk}
 use Rattle.ss_vcgen_builder.specs.declared.branches.Spot.{Spot}
-use Rattle.ss_vcgen_builder.specs.Builder.{guard_of, counters_of, local_at, locals_at, obligation_at, obligations_at, position_at, HasLocal, HasLocals, AreWithin, IsFine, Becomes, listing, IsWalk, HasSpot, at_spot, IsSpot}
+use Rattle.ss_vcgen_builder.specs.Builder.{guard_of, counters_of, local_at, locals_at, obligation_at, obligations_at, position_at, HasLocals, AreWithin, IsFine, Becomes, listing, IsWalk, HasSpot, at_spot, IsSpot}
+use Rattle.ss_terms.specs.Numbered.{HasTermOf}
 use Rattle.ss_vcgen_builder.proofs.Held.{HasLocals-grown, HasLocals-set, HasLocals-push, AreWithin-grown, AreWithin-push, AreWithin-longer}
 
 -- ---- one step and then another
@@ -200,7 +201,7 @@ becomes_new s b n sort fine g e =
     (becomes_then s (record s { bank = b }) (record s { bank = b; next = n }) (λ c. position_at c s) (λ c k. record k { guard = guard_of s.guard; next = counters_of n }) p (becomes_counted (record s { bank = b }) s.guard n p.fine))
     (λ c k. ap (λ (m : spec.Counters). record (position_at c s) { next = m }) e)
 
-pub becomes_added : (s : Builder) (l : Option TermId) (t : Vec (Option TermId) Global) → IsFine s → HasLocal s.bank l → t.items ≡ s.locals.items ++ l ∷ [] →
+pub becomes_added : (s : Builder) (l : Option TermId) (t : Vec (Option TermId) Global) → IsFine s → HasTermOf s.bank l → t.items ≡ s.locals.items ++ l ∷ [] →
     Becomes s (record s { locals = t }) (λ b. record (position_at b s) { locals = (position_at b s).locals ++ local_at b l ∷ [] })
 becomes_added s l t fine has e =
     becomes_so s (record s { locals = t }) (λ b. record (position_at b s) { locals = locals_at b t.items }) (λ b. record (position_at b s) { locals = (position_at b s).locals ++ local_at b l ∷ [] })

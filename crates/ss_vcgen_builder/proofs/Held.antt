@@ -1,21 +1,18 @@
 -- Numbers that a bank has stay so as it grows, and lists of them as they are changed.
-use Rattle.std.proofs.Common.{ℕ, zero, suc, ◌+◌, ◌<◌, List, [], ◌∷◌, ◌++◌, length, get_or, Option, Some, None, arith}
+use Rattle.std.proofs.Common.{ℕ, zero, suc, ◌+◌, ◌<◌, List, [], ◌∷◌, ◌++◌, length, get_or, Option, arith}
 use Rattle.std.specs.Prelude.{slice_get, slice_set, IfSome}
 use Rattle.ss_terms.specs.declared.forms.TermId.{TermId}
 use Rattle.ss_terms.specs.declared.forms.FormulaId.{FormulaId}
 use Rattle.ss_terms.specs.Forms.{Forms, HasFormula, HasFormulas, IsGrown}
-use Rattle.ss_terms.proofs.Grown.{HasTerm-grown, HasFormula-grown}
+use Rattle.ss_terms.proofs.Grown.{HasTermOf-grown, HasFormula-grown}
 use Rattle.ss_vcgen_builder.specs.declared.builder.Listed.{Listed}
-use Rattle.ss_vcgen_builder.specs.Builder.{HasLocal, HasLocals, IsPlaced, AreWithin}
+use Rattle.ss_vcgen_builder.specs.Builder.{HasLocals, IsPlaced, AreWithin}
+use Rattle.ss_terms.specs.Numbered.{HasTermOf}
 
 module _ (a b : Forms) (g : IsGrown a b) where
-  pub HasLocal-grown : (l : Option TermId) → HasLocal a l → HasLocal b l
-  HasLocal-grown None h = tt
-  HasLocal-grown (Some t) h = HasTerm-grown a b g t h
-
   pub HasLocals-grown : (ls : List (Option TermId)) → HasLocals a ls → HasLocals b ls
   HasLocals-grown [] h = tt
-  HasLocals-grown (l ∷ ls) h = (HasLocal-grown l h.0, HasLocals-grown ls h.1)
+  HasLocals-grown (l ∷ ls) h = (HasTermOf-grown a b g l h.0, HasLocals-grown ls h.1)
 
   IsPlaced-grown : (n : ℕ) (o : Listed) → IsPlaced a n o → IsPlaced b n o
   IsPlaced-grown n o h = record { goal = HasFormula-grown a b g o.goal h.goal; first = h.first; end = h.end }
@@ -25,21 +22,21 @@ module _ (a b : Forms) (g : IsGrown a b) where
   AreWithin-grown n (o ∷ os) h = (IsPlaced-grown n o h.0, AreWithin-grown n os h.1)
 
 module _ (b : Forms) where
-  pub HasLocals-set : (ls : List (Option TermId)) (x : ℕ) (l : Option TermId) → HasLocals b ls → HasLocal b l → HasLocals b (slice_set ls x l)
+  pub HasLocals-set : (ls : List (Option TermId)) (x : ℕ) (l : Option TermId) → HasLocals b ls → HasTermOf b l → HasLocals b (slice_set ls x l)
   HasLocals-set [] x l h w = tt
   HasLocals-set (m ∷ ls) zero l h w = (w, h.1)
   HasLocals-set (m ∷ ls) (suc x) l h w = (h.0, HasLocals-set ls x l h.1 w)
 
-  pub HasLocals-push : (ls : List (Option TermId)) (l : Option TermId) → HasLocals b ls → HasLocal b l → HasLocals b (ls ++ l ∷ [])
+  pub HasLocals-push : (ls : List (Option TermId)) (l : Option TermId) → HasLocals b ls → HasTermOf b l → HasLocals b (ls ++ l ∷ [])
   HasLocals-push [] l h w = (w, tt)
   HasLocals-push (m ∷ ls) l h w = (h.0, HasLocals-push ls l h.1 w)
 
-  pub HasLocals-get : (ls : List (Option TermId)) (i : ℕ) (d : Option TermId) → HasLocals b ls → i < length ls → HasLocal b (get_or ls i d)
+  pub HasLocals-get : (ls : List (Option TermId)) (i : ℕ) (d : Option TermId) → HasLocals b ls → i < length ls → HasTermOf b (get_or ls i d)
   HasLocals-get [] i d h at = absurd (omega arith)
   HasLocals-get (l ∷ ls) zero d h at = h.0
   HasLocals-get (l ∷ ls) (suc i) d h at = HasLocals-get ls i d h.1 (omega arith)
 
-  pub HasLocals-found : (ls : List (Option TermId)) (x : ℕ) → HasLocals b ls → IfSome (slice_get ls x) (λ l. HasLocal b l)
+  pub HasLocals-found : (ls : List (Option TermId)) (x : ℕ) → HasLocals b ls → IfSome (slice_get ls x) (λ l. HasTermOf b l)
   HasLocals-found [] x h = tt
   HasLocals-found (l ∷ ls) zero h = h.0
   HasLocals-found (l ∷ ls) (suc x) h = HasLocals-found ls x h.1

@@ -12,6 +12,7 @@ use Rattle.ss_logic.specs.Express.{and_of, or_of}
 use Rattle.ss_terms.specs.declared.forms.TermId.{TermId}
 use Rattle.ss_terms.specs.declared.forms.FormulaId.{FormulaId}
 use Rattle.ss_terms.specs.Forms.{Forms, term_at, formula_at, formulas_at, HasTerm, HasFormula, HasFormulas, IsGrown, IsBankOf}
+use Rattle.ss_terms.specs.Numbered.{HasTermOf}
 use Rattle.ss_vcgen_heaps.specs.Positions as spec
 use Rattle.ss_vcgen_known.specs.Views.{known_of}
 use Rattle.ss_vcgen_builder.specs.declared.guard.Guard.{Guard}
@@ -65,17 +66,13 @@ position_at b s = record {
   listed = obligations_at b s.trail.items s.list.items;
 }
 
-abbrev pub HasLocal : Forms → Option TermId → Type 0
-HasLocal b None = Unit {0}
-HasLocal b (Some t) = HasTerm b t
-
 abbrev pub HasLocals : Forms → List (Option TermId) → Type 0
 HasLocals b [] = Unit {0}
-HasLocals b (l ∷ ls) = HasLocal b l × HasLocals b ls
+HasLocals b (l ∷ ls) = HasTermOf b l × HasLocals b ls
 
 -- the bank has them, and in it and in each bank that it grows to they stand for these
 pub record IsLocal (a : Forms) (l : Option TermId) (says : Forms → Option tree.Term) : Type 0 where
-  pub has : HasLocal a l
+  pub has : HasTermOf a l
   pub is : (b : Forms) → IsGrown a b → local_at b l ≡ says b
 
 pub record AreLocals (a : Forms) (ls : List (Option TermId)) (say : Forms → List (Option tree.Term)) : Type 0 where

@@ -2,7 +2,6 @@
 
 ghost use Rattle.std.specs.Prelude.{◌≡◌, [], ◌∷◌, IfOk, OnOk};
 ghost use Rattle.ss_store_rules.specs.NonNull.{known_met};
-ghost use Rattle.ss_logic.specs.Terms.{sort_of_type};
 ghost use Rattle.ss_logic.specs.Formulas.{neg};
 ghost use Rattle.ss_logic.specs.Shapes.{equal};
 ghost use Rattle.ss_logic.specs.Express.{or_of};
@@ -10,7 +9,8 @@ ghost use Rattle.ss_terms.specs.Forms.{term_at, formula_at, HasTerm, HasFormula,
 ghost use Rattle.ss_vcgen_heaps.specs.Positions as spec;
 ghost use Rattle.ss_vcgen_express.specs.Numbers.{IsTerm, IsFormula};
 ghost use Rattle.ss_vcgen_known.specs.Views.{known_of};
-ghost use Rattle.ss_vcgen_builder.specs.Builder.{guard_of, local_at, locals_at, position_at, at_spot, join_local, walk_at, HasLocal, HasLocals, IsLocal, AreLocals, HasSpot, IsFine, IsWalk, Becomes};
+ghost use Rattle.ss_vcgen_builder.specs.Builder.{guard_of, local_at, locals_at, position_at, at_spot, join_local, walk_at, HasLocals, IsLocal, AreLocals, HasSpot, IsFine, IsWalk, Becomes};
+ghost use Rattle.ss_terms.specs.Numbered.{HasTermOf};
 
 use crate::branches::Spot;
 use crate::builder::{Builder, Walk};
@@ -18,21 +18,9 @@ use crate::guard::{Guard, equation, guard_formula, unreached};
 use crate::terms::after;
 use ss_core::Ty;
 use ss_logic::Sort;
-use ss_terms::{Bank, FormulaId, TermId};
+use ss_terms::{Bank, FormulaId, TermId, sort_of_type};
 use ss_vcgen_known::Known;
 use std::alloc::AllocError;
-
-// The sort of the values of a type.
-fn sort_of(ty: Ty) -> Sort
-    ensures { result ≡ sort_of_type ty }
-{
-    match ty {
-        Ty::Int => Sort::Whole,
-        Ty::Bool => Sort::Truth,
-        Ty::Null => Sort::Rest,
-        Ty::Ref { .. } => Sort::Rest,
-    }
-}
 
 // That where the truth value with this number is true, one of two positions is reached.
 fn meeting(
@@ -139,8 +127,8 @@ impl Builder {
         z: Option<TermId>,
     ) -> Result<Option<TermId>, AllocError>
         requires fine { IsFine self.old }
-        requires first { HasLocal self.old.bank a }
-        requires second { HasLocal self.old.bank z }
+        requires first { HasTermOf self.old.bank a }
+        requires second { HasTermOf self.old.bank z }
         ensures at { IfOk result (λ l. IsLocal self.new.bank l (λ b. (join_local (guard_of first) (guard_of second) sort (local_at b a) (local_at b z) (position_at b self.old)).0)) }
         ensures becomes { IfOk result (λ l. Becomes self.old self.new (λ b. (join_local (guard_of first) (guard_of second) sort (local_at b a) (local_at b z) (position_at b self.old)).1)) }
     {
@@ -170,7 +158,13 @@ impl Builder {
         let pairs = firsts.len().min(seconds.len());
         let count = types.len().min(pairs);
         for i in 0..count {
-            let local = self.join_local(first, second, sort_of(types[i]), firsts[i], seconds[i])?;
+            let local = self.join_local(
+                first,
+                second,
+                sort_of_type(types[i]),
+                firsts[i],
+                seconds[i],
+            )?;
             joined.push(local)?;
         }
         Ok(joined)

@@ -5,7 +5,8 @@ ghost use Rattle.ss_terms.specs.Forms.{term_at, HasTerm, IsGrown};
 ghost use Rattle.ss_vcgen_heaps.specs.Positions as spec;
 ghost use Rattle.ss_vcgen_express.specs.Numbers.{meant_at, HasMeant, IsTerm, IsFormula};
 ghost use Rattle.ss_vcgen_known.specs.Views.{known_of};
-ghost use Rattle.ss_vcgen_builder.specs.Builder.{counters_of, local_at, position_at, HasLocal, IsFine, Becomes};
+ghost use Rattle.ss_vcgen_builder.specs.Builder.{counters_of, local_at, position_at, IsFine, Becomes};
+ghost use Rattle.ss_terms.specs.Numbered.{HasTermOf};
 
 use crate::builder::{Builder, Counters};
 use crate::guard::{Guard, good};
@@ -79,7 +80,7 @@ fn found(locals: &[Option<TermId>], x: usize) -> Option<Option<TermId>>
 
 // The term that was found, or null.
 fn or_null(bank: &mut Bank, found: Option<Option<TermId>>) -> Result<TermId, AllocError>
-    requires { IfSome found (λ l. HasLocal bank.old l) }
+    requires { IfSome found (λ l. HasTermOf bank.old l) }
     ensures at { IfOk result (λ t. IsTerm bank.new t (λ b. spec.term_or_null (option_map (local_at b) found))) }
     ensures grown { IsGrown bank.old bank.new }
 {
@@ -154,7 +155,7 @@ impl Builder {
     /// One local more.
     pub fn add_local(&mut self, local: Option<TermId>) -> Result<(), AllocError>
         requires fine { IsFine self.old }
-        requires local { HasLocal self.old.bank local }
+        requires local { HasTermOf self.old.bank local }
         ensures { OnOk result (Becomes self.old self.new (λ b. record (position_at b self.old) { locals = (position_at b self.old).locals ++ local_at b local ∷ [] })) }
     {
         self.locals.push(local)?;

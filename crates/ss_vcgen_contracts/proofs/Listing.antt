@@ -13,7 +13,7 @@ use Rattle.ss_logic.specs.Express.{One, Meant, default_of_sort}
 use Rattle.ss_logic.specs.Frames as logic
 use Rattle.ss_terms.specs.declared.forms.TermId.{TermId}
 use Rattle.ss_terms.specs.declared.forms.FormulaId.{FormulaId}
-use Rattle.ss_terms.specs.Forms.{Forms, formula_at, formulas_at, HasTerm, HasTerms, IsGrown}
+use Rattle.ss_terms.specs.Forms.{Forms, formula_at, formulas_at, HasTerms, IsGrown}
 use Rattle.ss_terms.proofs.Grown.{IsGrown-then, HasTerms-grown, HasFormulas-grown}
 use Rattle.ss_frames.specs.declared.calls.NamedTerm.{NamedTerm}
 use Rattle.ss_frames.specs.Calls.{named_at, HasNamed, HasAllNamed}
@@ -21,19 +21,11 @@ use Rattle.ss_frames.proofs.Growing.{HasNamed-grown}
 use Rattle.ss_vcgen_express.specs.declared.meant.Choice.{Choice}
 use Rattle.ss_vcgen_express.specs.Numbers.{choice_at, choices_at, IsTerm, IsFormula, AreFormulas}
 use Rattle.ss_vcgen_express.specs.Contexts.{local_at}
-use Rattle.ss_vcgen_express.proofs.Grown.{HasFormulas-push}
+use Rattle.ss_terms.proofs.Longer.{HasFormulas-push, HasTerms-push, HasTerms-append}
 use Rattle.ss_vcgen_heaps.specs.Contracts.{defaults_meant}
 use Rattle.ss_vcgen_contracts.specs.Views.{ones_at, AreOnes, IsName, AreNames}
 
 -- ---- terms
-
-HasTerms-push : (c : Forms) (ts : List TermId) (t : TermId) → HasTerms c ts → HasTerm c t → HasTerms c (ts ++ t ∷ [])
-HasTerms-push c [] t h at = (at, tt)
-HasTerms-push c (u ∷ ts) t h at = (h.0, HasTerms-push c ts t h.1 at)
-
-HasTerms-append : (c : Forms) (ts us : List TermId) → HasTerms c ts → HasTerms c us → HasTerms c (ts ++ us)
-HasTerms-append c [] us h k = k
-HasTerms-append c (t ∷ ts) us h k = (h.0, HasTerms-append c ts us h.1 k)
 
 map_append : {X Y : Type 0} (f : X → Y) (xs ys : List X) → map f (xs ++ ys) ≡ map f xs ++ map f ys
 map_append f [] ys = refl

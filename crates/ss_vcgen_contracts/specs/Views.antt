@@ -9,8 +9,7 @@ use Rattle.ss_terms.specs.Forms.{Forms, HasTerms, IsGrown}
 use Rattle.ss_frames.specs.declared.calls.NamedTerm.{NamedTerm}
 use Rattle.ss_frames.specs.declared.calls.CallTerms.{CallTerms}
 use Rattle.ss_frames.specs.Calls.{named_at, call_at, HasNamed, HasAllNamed, HasCall}
-use Rattle.ss_vcgen_express.specs.declared.context.Context.{Context}
-use Rattle.ss_vcgen_express.specs.Contexts.{local_at, context_at, HasContext}
+use Rattle.ss_vcgen_express.specs.Contexts.{local_at}
 use Rattle.ss_vcgen_heaps.specs.Contracts.{seen}
 use Rattle.ss_vcgen_contracts.specs.declared.contract.Contract.{Contract}
 
@@ -25,10 +24,6 @@ ones_at b ts = map (local_at b) ts
 pub record AreOnes (a : Forms) (ts : List TermId) (say : Forms → List spec.Meant) : Type 0 where
   pub has : HasTerms a ts
   pub are : (b : Forms) → IsGrown a b → ones_at b ts ≡ say b
-
-pub record IsContext (a : Forms) (c : Context) (says : Forms → spec.Context) : Type 0 where
-  pub has : HasContext a c
-  pub is : (b : Forms) → IsGrown a b → context_at b c ≡ says b
 
 pub record IsName (a : Forms) (n : NamedTerm) (says : Forms → logic.NamedTerm) : Type 0 where
   pub has : HasNamed a n

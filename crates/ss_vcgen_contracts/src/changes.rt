@@ -11,7 +11,8 @@ ghost use Rattle.ss_vcgen_express.specs.declared.meant.Meant.TheVariants as mean
 ghost use Rattle.ss_vcgen_express.specs.Numbers.{IsFormula, IsMeant};
 ghost use Rattle.ss_vcgen_heaps.specs.Contracts as heaps;
 ghost use Rattle.ss_vcgen_contracts.specs.Names.{name_seen, names_context};
-ghost use Rattle.ss_vcgen_contracts.specs.Views.{contract_of, ones_at, IsContext, AreNames, IsCall};
+ghost use Rattle.ss_vcgen_contracts.specs.Views.{contract_of, ones_at, AreNames, IsCall};
+ghost use Rattle.ss_vcgen_express.specs.Contexts.{IsContext};
 
 use crate::captured::{captured_terms, owned_terms};
 use crate::contexts::{contract_context, no_result};

@@ -9,7 +9,8 @@ ghost use Rattle.ss_store_rules.specs.Locals.{types_of};
 ghost use Rattle.ss_terms.specs.Forms.{term_at, HasTerm, HasTerms, IsGrown};
 ghost use Rattle.ss_vcgen_express.specs.Numbers.{IsTerm};
 ghost use Rattle.ss_vcgen_heaps.specs.Contracts as heaps;
-ghost use Rattle.ss_vcgen_contracts.specs.Views.{contract_of, ones_at, AreOnes, IsContext};
+ghost use Rattle.ss_vcgen_contracts.specs.Views.{contract_of, ones_at, AreOnes};
+ghost use Rattle.ss_vcgen_express.specs.Contexts.{IsContext};
 
 use crate::contract::{Contract, Run};
 use ss_core::{Body, Classes, Local, Ty};

@@ -4,6 +4,7 @@ ghost use Rattle.std.specs.Prelude.{◌≡◌, [], ◌∷◌, IfOk};
 ghost use Rattle.ss_core.specs.Chain.{all_fields};
 ghost use Rattle.ss_core.specs.View as view;
 ghost use Rattle.ss_core.specs.View.{default_tree};
+ghost use Rattle.ss_store_rules.specs.Values.{subject};
 ghost use Rattle.ss_logic.specs.Express as spec;
 ghost use Rattle.ss_logic.specs.declared.Sort.TheVariants as sort;
 ghost use Rattle.ss_logic.specs.Terms.{Bound};
@@ -188,7 +189,7 @@ fn met_by(
 
 // The local of which a condition speaks: `this`, or an argument.
 fn subject(condition: DefaultCondition) -> usize
-    ensures { result ≡ spec.subject (default_tree condition) }
+    ensures { result ≡ subject (default_tree condition) }
 {
     match condition {
         DefaultCondition::ConsistentArgument(x) => x,

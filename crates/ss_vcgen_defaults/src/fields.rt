@@ -3,11 +3,11 @@
 ghost use Rattle.std.specs.Prelude.{◌≡◌, ◌≤◌, ◌+◌, ◌++◌, length, IfOk, OnOk, map, [], ◌∷◌};
 ghost use Rattle.ss_core.specs.Chain.{most_classes, all_fields};
 ghost use Rattle.ss_core.specs.View as view;
-ghost use Rattle.ss_logic.specs.Terms as tree;
 ghost use Rattle.ss_vcgen_defaults.specs.Defaults.{slot, slot_of, with_slot, slots_if, slots_upto};
 
-use ss_core::{Class, ClassId, Classes, Field, Ty};
+use ss_core::{Class, ClassId, Classes, Field};
 use ss_logic::Sort;
+use ss_terms::sort_of_type;
 use std::alloc::{AllocError, Global};
 
 // A field, and the sort of what it holds.
@@ -15,17 +15,6 @@ use std::alloc::{AllocError, Global};
 pub(crate) struct Held {
     pub(crate) field: u32,
     pub(crate) sort: Sort,
-}
-
-fn sort_of_type(ty: Ty) -> Sort
-    ensures { result ≡ tree.sort_of_type ty }
-{
-    match ty {
-        Ty::Int => Sort::Whole,
-        Ty::Bool => Sort::Truth,
-        Ty::Null => Sort::Rest,
-        Ty::Ref { .. } => Sort::Rest,
-    }
 }
 
 // The next number; where there is none, that counts as want of memory.

@@ -15,7 +15,7 @@ use Rattle.ss_vcgen_express.specs.declared.meant.Meant.{Meant}
 use Rattle.ss_vcgen_express.specs.declared.meant.Meant.TheVariants as meant
 use Rattle.ss_vcgen_express.specs.Numbers.{meant_at, HasMeant, IsFormula, AreFormulas, IsMeant}
 use Rattle.ss_vcgen_express.specs.Chains.{conjuncts, disjuncts}
-use Rattle.ss_vcgen_express.proofs.Grown.{HasFormulas-push}
+use Rattle.ss_terms.proofs.Longer.{HasFormulas-push}
 
 list_back : (fs : List Formula) → formula_list (formulas_from fs) ≡ fs
 list_back [] = refl

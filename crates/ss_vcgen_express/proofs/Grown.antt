@@ -1,5 +1,5 @@
 -- What stands for what stays so as the bank grows.
-use Rattle.std.proofs.Common.{◌≡◌, ℕ, zero, suc, ◌+◌, ◌<◌, List, [], ◌∷◌, ◌++◌, length, map, take, get_or, refl, sym, ◌∙◌, ap, arith, Option, Some, None, Result, Ok, Err, Vec, Global}
+use Rattle.std.proofs.Common.{◌≡◌, ℕ, zero, suc, ◌+◌, ◌<◌, List, [], ◌∷◌, ◌++◌, length, map, take, get_or, refl, sym, ◌∙◌, ap, arith, Result, Ok, Err, Vec, Global}
 use Rattle.std.specs.Prelude.{IfOk}
 use Rattle.std.proofs.lemmas.List.{take_more, map_push}
 use Rattle.ss_logic.specs.Terms as tree
@@ -8,7 +8,8 @@ use Rattle.ss_logic.specs.Express as spec
 use Rattle.ss_terms.specs.declared.forms.TermId.{TermId}
 use Rattle.ss_terms.specs.declared.forms.FormulaId.{FormulaId}
 use Rattle.ss_terms.specs.Forms.{Forms, term_at, formula_at, formulas_at, HasTerm, HasFormula, HasFormulas, IsGrown}
-use Rattle.ss_terms.proofs.Grown.{IsGrown-then, HasTerm-grown, HasFormula-grown, HasFormulas-grown}
+use Rattle.ss_terms.proofs.Grown.{IsGrown-then, HasTerm-grown, HasTermOf-grown, HasFormula-grown, HasFormulas-grown}
+use Rattle.ss_terms.proofs.Longer.{HasFormulas-push}
 use Rattle.ss_vcgen_express.specs.declared.meant.Choice.{Choice}
 use Rattle.ss_vcgen_express.specs.declared.meant.Meant.{Meant}
 use Rattle.ss_vcgen_express.specs.declared.meant.Meant.TheVariants as meant
@@ -18,7 +19,7 @@ use Rattle.ss_vcgen_express.specs.declared.sayings.Saying.{Saying}
 use Rattle.ss_vcgen_express.specs.declared.sayings.Saying.TheVariants as saying
 use Rattle.ss_vcgen_express.specs.Numbers.{choice_at, choices_at, HasChoice, HasChoices, HasMeant, IsFormula, AreFormulas, AreChoices}
 use Rattle.ss_vcgen_express.specs.declared.functions.Function.{Function}
-use Rattle.ss_vcgen_express.specs.Functions.{HasFirst, HasFunction}
+use Rattle.ss_vcgen_express.specs.Functions.{HasFunction}
 use Rattle.ss_vcgen_express.specs.Sayings.{related, said_so, HasRelation, HasSaying}
 
 -- ---- the bank has them
@@ -65,12 +66,8 @@ module _ {a b : Forms} (g : IsGrown a b) where
   HasSaying-grown (saying.Behind r y) h = (HasRelation-grown r h.0, HasTerm-grown a b g y h.1)
   HasSaying-grown (saying.Before r y) h = (HasRelation-grown r h.0, HasTerm-grown a b g y h.1)
 
-  HasFirst-grown : (o : Option TermId) → HasFirst a o → HasFirst b o
-  HasFirst-grown None h = tt
-  HasFirst-grown (Some t) h = HasTerm-grown a b g t h
-
   pub HasFunction-grown : (f : Function) → HasFunction a f → HasFunction b f
-  HasFunction-grown f h = HasFirst-grown f.first h
+  HasFunction-grown f h = HasTermOf-grown a b g f.first h
 
   -- ---- what is said stays
 
@@ -129,10 +126,6 @@ choices_so (Err z) c say others same h = tt
 -- what stands where a list has no choice
 abbrev pub no_choice : Choice
 no_choice = record { condition = record { 0 = 0 }; value = record { 0 = 0 } }
-
-pub HasFormulas-push : (c : Forms) (fs : List FormulaId) (f : FormulaId) → HasFormulas c fs → HasFormula c f → HasFormulas c (fs ++ f ∷ [])
-HasFormulas-push c [] f h at = (at, tt)
-HasFormulas-push c (g ∷ fs) f h at = (h.0, HasFormulas-push c fs f h.1 at)
 
 pub HasChoices-get : (b : Forms) (cs : List Choice) (i : ℕ) (d : Choice) → HasChoices b cs → i < length cs → HasChoice b (get_or cs i d)
 HasChoices-get b [] i d h at = absurd (omega arith)

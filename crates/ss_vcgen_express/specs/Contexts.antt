@@ -1,5 +1,5 @@
 -- Contexts over the numbers of a bank.
-use Rattle.std.specs.Prelude.{◌≤◌, List, [], ◌∷◌, ◌++◌, length, map, if◌then◌else◌}
+use Rattle.std.specs.Prelude.{◌≡◌, ◌≤◌, List, [], ◌∷◌, ◌++◌, length, map, if◌then◌else◌}
 use Rattle.ss_core.specs.declared.expr.Quantifier.{Quantifier}
 use Rattle.ss_core.specs.declared.expr.Quantifier.TheVariants as quantifier
 use Rattle.ss_core.specs.Chain.{most_classes}
@@ -9,7 +9,7 @@ use Rattle.ss_logic.specs.Formulas.{Formula, Forall, Exists, neg}
 use Rattle.ss_logic.specs.Express as spec
 use Rattle.ss_logic.specs.Express.{and_of, or_of}
 use Rattle.ss_terms.specs.declared.forms.TermId.{TermId}
-use Rattle.ss_terms.specs.Forms.{Forms, term_at, HasTerm, HasTerms}
+use Rattle.ss_terms.specs.Forms.{Forms, term_at, HasTerm, HasTerms, IsGrown}
 use Rattle.ss_vcgen_express.specs.declared.context.Context.{Context}
 
 abbrev pub local_at : Forms → TermId → spec.Meant
@@ -36,6 +36,11 @@ pub record HasContext (b : Forms) (c : Context) : Type 0 where
   pub entry : HasTerm b c.entry
   pub locals : HasTerms b c.locals.items
   pub classes : length (view.classes c.classes.now) ≤ most_classes
+
+-- the bank has the terms of the context, and in it and in each that it grows to they stand for this
+pub record IsContext (a : Forms) (c : Context) (says : Forms → spec.Context) : Type 0 where
+  pub has : HasContext a c
+  pub is : (b : Forms) → IsGrown a b → context_at b c ≡ says b
 
 -- ---- bound names
 

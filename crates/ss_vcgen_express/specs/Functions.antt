@@ -2,7 +2,8 @@
 use Rattle.std.specs.Prelude.{List, [], ◌∷◌, ◌++◌, Option, Some, None}
 use Rattle.ss_logic.specs.Terms.{Symbol, Term, app}
 use Rattle.ss_terms.specs.declared.forms.TermId.{TermId}
-use Rattle.ss_terms.specs.Forms.{Forms, symbol_of, HasTerm}
+use Rattle.ss_terms.specs.Forms.{Forms, symbol_of}
+use Rattle.ss_terms.specs.Numbered.{HasTermOf}
 use Rattle.ss_vcgen_express.specs.declared.functions.Function.{Function}
 
 abbrev pub first_term : (TermId → Term) → Option TermId → List Term
@@ -21,9 +22,5 @@ applied_two look f x y = app (symbol_of f.symbol) (first_term look f.first ++ x 
 abbrev pub of_two : Symbol → Term → Term → Term
 of_two f x y = app f (x ∷ y ∷ [])
 
-abbrev pub HasFirst : Forms → Option TermId → Type 0
-HasFirst b None = Unit {0}
-HasFirst b (Some t) = HasTerm b t
-
 abbrev pub HasFunction : Forms → Function → Type 0
-HasFunction b f = HasFirst b f.first
+HasFunction b f = HasTermOf b f.first

@@ -1,21 +1,17 @@
 -- What is said of values, by the terms of the stores in it.
 use Rattle.std.specs.Prelude.{ℕ, pos, [], ◌∷◌, Bool, true, false}
 use Rattle.ss_logic.specs.Terms.{Term, app}
-use Rattle.ss_logic.specs.Terms as term
 use Rattle.ss_logic.specs.Formulas.{Formula, neg}
 use Rattle.ss_logic.specs.Shapes.{number, null_term, class_term, level_of, owner_of, pair_of, equal, differ, at_most, sub_atom, allocated, committed, group}
 use Rattle.ss_logic.specs.Shapes as shape
 use Rattle.ss_logic.specs.Express.{and_of, or_of, truth_term, is_full, is_of, fits_int, less}
 use Rattle.ss_terms.specs.declared.forms.TermId.{TermId}
 use Rattle.ss_terms.specs.Forms.{Forms, symbol_of, HasTerm}
+use Rattle.ss_vcgen_heaps.specs.Obligations.{is_index}
 use Rattle.ss_vcgen_express.specs.declared.sayings.Relation.{Relation}
 use Rattle.ss_vcgen_express.specs.declared.sayings.Relation.TheVariants as relation
 use Rattle.ss_vcgen_express.specs.declared.sayings.Saying.{Saying}
 use Rattle.ss_vcgen_express.specs.declared.sayings.Saying.TheVariants as saying
-
--- the array has an element at the index
-abbrev pub has_element : Term → Term → Formula
-has_element x y = and_of (at_most (number (pos 0)) y ∷ less y (app term.Length (x ∷ [])) ∷ [])
 
 -- an object of the class or below; or null, where that is let through
 abbrev pub of_class : Bool → ℕ → Term → Formula
@@ -29,7 +25,7 @@ related look relation.Less x y = less x y
 related look relation.AtMost x y = at_most x y
 related look relation.Greater x y = less y x
 related look relation.AtLeast x y = at_most y x
-related look relation.HasElement x y = has_element x y
+related look relation.HasElement x y = is_index x y
 related look (relation.Fits f) x y = fits_int (app (symbol_of f) (x ∷ y ∷ []))
 related look (relation.SameOwner s) x y = equal (owner_of (look s) x) (owner_of (look s) y)
 related look (relation.OwnedAt s t) x y = equal (owner_of (look s) x) (pair_of y (class_term t))

@@ -6,7 +6,8 @@ ghost use Rattle.ss_logic.specs.Formulas as logic;
 ghost use Rattle.ss_logic.specs.Shapes.{class_term, level_of, owner_of, pair_of, equal, committed, group};
 ghost use Rattle.ss_logic.specs.Express as spec;
 ghost use Rattle.ss_terms.specs.Forms.{symbol_of, predicate_of, term_at, formula_at, HasTerm, HasFormula, IsGrown};
-ghost use Rattle.ss_vcgen_express.specs.Sayings.{has_element, of_class, related, said_so, HasRelation, HasSaying};
+ghost use Rattle.ss_vcgen_express.specs.Sayings.{of_class, related, said_so, HasRelation, HasSaying};
+ghost use Rattle.ss_vcgen_heaps.specs.Obligations.{is_index};
 
 use ss_rules_basic::{Claim, Clause, Plan, Slot, fill};
 use ss_terms::{Bank, FormulaId, Predicate, Symbol, TermId};
@@ -118,7 +119,7 @@ fn has_element(
 ) -> Result<FormulaId, AllocError>
     requires array { HasTerm bank.old array }
     requires index { HasTerm bank.old index }
-    ensures at { IfOk result (λ f. HasFormula bank.new f × (formula_at bank.new f ≡ has_element (term_at bank.old array) (term_at bank.old index))) }
+    ensures at { IfOk result (λ f. HasFormula bank.new f × (formula_at bank.new f ≡ is_index (term_at bank.old array) (term_at bank.old index))) }
     ensures grown { IsGrown bank.old bank.new }
 {
     let plans = [

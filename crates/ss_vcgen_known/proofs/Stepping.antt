@@ -3,8 +3,8 @@ use Rattle.std.proofs.Common.{◌≡◌, ℕ, zero, suc, ◌+◌, ◌<◌, ◌�
 use Rattle.ss_core.specs.declared.names.Place.{Place}
 use Rattle.ss_core.specs.declared.expr.Step.{Step}
 use Rattle.ss_core.specs.Tree.{ExprTree}
+use Rattle.ss_core.specs.Parts.{step_behind, path_front}
 use Rattle.ss_store_rules.specs.NonNull.{is_this_object}
-use Rattle.ss_vcgen_types.specs.Fronts.{step_behind, path_front}
 use Rattle.ss_vcgen_types.proofs.Grouping.{path_all, path_next, path_whole}
 use Rattle.ss_vcgen_types.proofs.Forms.{step_not_this}
 

@@ -4,8 +4,8 @@ ghost use Rattle.std.specs.Prelude.{◌≡◌, IfOk, OnOk};
 ghost use Rattle.ss_core.specs.declared.names.Place.{Place as PlaceValue};
 ghost use Rattle.ss_core.specs.Tree.{ExprTree};
 ghost use Rattle.ss_core.specs.View.{expr};
+ghost use Rattle.ss_core.specs.Parts.{link_behind};
 ghost use Rattle.ss_store_rules.specs.NonNull as spec;
-ghost use Rattle.ss_vcgen_types.specs.Fronts.{link_behind};
 ghost use Rattle.ss_vcgen_known.specs.TellsFront.{TellsFront};
 ghost use Rattle.ss_vcgen_known.specs.Views.{tested};
 

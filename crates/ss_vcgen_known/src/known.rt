@@ -22,8 +22,8 @@ use crate::never_null::is_never_null;
 use crate::sides::Sides;
 use crate::tests::Tests;
 use ss_bit_set::BitSet;
-use ss_core::{Body, Callee, Core, Expr, FieldId, Stmt, Ty};
-use ss_vcgen_types::{Told, TypeContext, callee_of, is_non_null_type, is_this, told_by};
+use ss_core::{Body, Callee, Core, Expr, FieldId, Stmt, Ty, is_non_null_type};
+use ss_vcgen_types::{Told, TypeContext, callee_of, is_this, told_by};
 use std::alloc::{AllocError, Global};
 
 /// What is known at a place of a body: which locals aren't null, and what follows where a local is true or false. In a constructor also

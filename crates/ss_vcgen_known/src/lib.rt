@@ -16,6 +16,8 @@ pub use body_context::BodyContext;
 pub use fields::Fields;
 pub use fronts::FrontTold;
 pub use known::Known;
-pub use never_null::{chain_never_null, is_never_null, is_this_object, path_never_null};
+pub use never_null::{
+    chain_never_null, is_never_null, is_non_null_local, is_this_object, path_never_null,
+};
 pub use sides::Sides;
 pub use tests::{Tests, knows};

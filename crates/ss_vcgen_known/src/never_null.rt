@@ -5,14 +5,14 @@ ghost use Rattle.ss_core.specs.declared.names.Place.{Place as PlaceValue};
 ghost use Rattle.ss_core.specs.Chain.{most_classes};
 ghost use Rattle.ss_core.specs.Tree.{ExprTree, FieldExpr};
 ghost use Rattle.ss_core.specs.View.{classes, expr};
+ghost use Rattle.ss_core.specs.Parts.{link_behind, step_behind, chain_front, path_front};
 ghost use Rattle.ss_store_rules.specs.NonNull.{is_non_null_type, is_this_object, is_never_null};
-ghost use Rattle.ss_vcgen_types.specs.Fronts.{link_behind, step_behind, chain_front, path_front};
 ghost use Rattle.ss_vcgen_known.specs.Views.{type_context_of, known_of, tested};
 
 use crate::known::Known;
 use crate::tests::{Tests, has_field, knows};
-use ss_core::{Expr, FieldId, Link, Step, Ty, is_non_null};
-use ss_vcgen_types::{TypeContext, field_type, is_non_null_type};
+use ss_core::{Expr, FieldId, Link, Step, Ty, is_non_null, is_non_null_type};
+use ss_vcgen_types::{TypeContext, field_type};
 
 // Whether the expression is `this`, or `this` as another class.
 pub fn is_this_object(e: &Expr) -> bool
@@ -65,8 +65,8 @@ fn is_cast(link: &Link) -> bool
     }
 }
 
-// A local whose type says that it isn't null.
-fn is_non_null_local(types: &[Ty], x: usize) -> bool
+/// Whether the type of a local says that it isn't null.
+pub fn is_non_null_local(types: &[Ty], x: usize) -> bool
     ensures { result ≡ is_non_null_type (slice_get types.now x) }
 {
     if x < types.len() {

@@ -7,9 +7,10 @@ use Rattle.ss_core.specs.declared.names.Ty.{Ty}
 use Rattle.ss_core.specs.declared.names.Ty.TheVariants as ty
 use Rattle.ss_core.specs.Tree.{ClassTree, ExprTree, LocalTree, NamedTree, FieldOf, AllOf, ElementsOf, UptoOf, BodyTree}
 use Rattle.ss_core.specs.Chain.{levels}
+use Rattle.ss_core.specs.Types.{is_class_type}
 use Rattle.ss_store_rules.specs.Locals.{types_of, argument_types, local_types}
 use Rattle.ss_store_rules.specs.Types.{is_reference, type_of}
-use Rattle.ss_store_rules.specs.Typed.{is_class_type, is_local}
+use Rattle.ss_store_rules.specs.Typed.{is_local}
 use Rattle.ss_machine_rules.specs.Frame.{subject_of}
 use Rattle.ss_logic.specs.declared.Sort.{Sort}
 use Rattle.ss_logic.specs.declared.Sort.TheVariants as sort

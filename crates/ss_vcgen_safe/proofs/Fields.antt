@@ -14,6 +14,7 @@ use Rattle.ss_core.specs.Tree.{ClassTree, ExprTree, LocalExpr, BodyTree}
 use Rattle.ss_core.specs.Chain.{is_type, DeclaredField, all_fields}
 use Rattle.ss_core.proofs.Declared.{declared_place}
 use Rattle.ss_core.proofs.Fields.{field_declared}
+use Rattle.ss_core.specs.Types.{is_class_type}
 use Rattle.ss_store_rules.specs.declared.Value.{Value as ObjectValue}
 use Rattle.ss_store_rules.specs.declared.Value.TheVariants as value
 use Rattle.ss_store_rules.specs.Store.{Slot, Object, slot_value, field_value}
@@ -21,7 +22,7 @@ use Rattle.ss_store_rules.specs.Admissible.{is_this}
 use Rattle.ss_store_rules.specs.Changes.{below, packed, class_of_field, mark_of_field, type_of_field, field_class, field_mark, field_type, changed, with_field, written, with_owners, then_written, writing, write_of}
 use Rattle.ss_store_rules.specs.Good.{is_non_null}
 use Rattle.ss_store_rules.specs.NonNull.{Known}
-use Rattle.ss_store_rules.specs.Typed.{is_plain, is_class_type, is_field, has_type_in, same_mark, is_write_of}
+use Rattle.ss_store_rules.specs.Typed.{is_plain, is_field, has_type_in, same_mark, is_write_of}
 use Rattle.ss_store_rules.specs.Types.{has_class, code_type}
 use Rattle.ss_store_rules.specs.Values.{Setting, local_value}
 use Rattle.ss_store_rules.specs.Values as run

@@ -12,7 +12,8 @@ use Rattle.ss_logic.specs.Terms.{Field, Element, Term, Bound, App, Terms, no_ter
 use Rattle.ss_logic.specs.Formulas.{Ready, Formula, Formulas, Literal, And, Or, Forall, Exists, no_formulas, formula_then, takes_sorts, are_bound_sorts, is_well_formed, are_well_formed, neg}
 use Rattle.ss_logic.proofs.Truth.{equal_sorts}
 use Rattle.ss_logic.specs.Shapes.{class_term, level_of, owner_of, type_of, pair_of, equal, allocated, committed, ready, group}
-use Rattle.ss_logic.specs.Frames.{NamedTerm, NamesField, NamesAll, NamesUpto, NamesElements, OwnerTerm, CallTerms, lifted_term, lifted_terms, lifted, all_lifted, and_of, unless, iff, the_object, the_index, in_group_of, owned_by, is_free, is_outside, is_named, names_field, names_level, names_elements, all_named, field_kept, fields_kept, level_kept, object_kept, objects_kept, element_kept, array_kept, elements_kept, others_full, kept, object_grown, grown}
+use Rattle.ss_logic.specs.Frames.{NamedTerm, NamesField, NamesAll, NamesUpto, NamesElements, OwnerTerm, CallTerms, lifted_term, lifted_terms, lifted, all_lifted, unless, iff, the_object, the_index, in_group_of, owned_by, is_free, is_outside, is_named, names_field, names_level, names_elements, all_named, field_kept, fields_kept, level_kept, object_kept, objects_kept, element_kept, array_kept, elements_kept, others_full, kept, object_grown, grown}
+use Rattle.ss_logic.specs.Express.{and_of}
 use Rattle.ss_logic.specs.Sorted.{is_object, is_name, AreSorted}
 use Rattle.ss_logic_means.specs.Sorts.{HasSort, AreWellFormed}
 use Rattle.ss_logic_means.proofs.Sorting.{sorted_two, sorted_three, formed_two, equal_formed, all_formed, more_formed, each_formed, neg_formed, sort_more}

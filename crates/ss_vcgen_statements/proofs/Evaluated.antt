@@ -1,9 +1,8 @@
 -- Contexts at positions, and the checks of parts, one after the other.
-use Rattle.std.proofs.Common.{◌≡◌, ℕ, zero, suc, ◌+◌, ◌<◌, List, [], ◌∷◌, length, map, drop, ◌++◌, get_or, refl, sym, subst, ◌≤◌, ◌∙◌, ap, arith, Bool, true, false, Option, Some, None}
+use Rattle.std.proofs.Common.{◌≡◌, ℕ, ◌+◌, ◌<◌, List, [], ◌∷◌, length, map, drop, ◌++◌, get_or, refl, sym, subst, ◌≤◌, ◌∙◌, ap, Bool, true, false, Option, Some, None}
 use Rattle.std.specs.Prelude.{if◌then◌else◌}
 use Rattle.std.proofs.lemmas.List.{drop_more}
 use Rattle.ss_core.specs.declared.class.Classes.{Classes}
-use Rattle.ss_core.specs.declared.names.Kind.TheVariants as kind
 use Rattle.ss_core.specs.declared.names.Ty.{Ty}
 use Rattle.ss_core.specs.Tree.{ClassTree, ExprTree}
 use Rattle.ss_core.specs.Chain.{most_classes}
@@ -14,7 +13,7 @@ use Rattle.ss_logic.specs.Terms as tree
 use Rattle.ss_logic.specs.Shapes.{null_term}
 use Rattle.ss_logic.specs.Express as spec
 use Rattle.ss_terms.specs.declared.forms.TermId.{TermId}
-use Rattle.ss_terms.specs.Forms.{Forms, term_at, HasTerm, HasTerms, HasFormula, IsGrown}
+use Rattle.ss_terms.specs.Forms.{Forms, term_at, HasTerm, HasTerms, IsGrown}
 use Rattle.ss_terms.proofs.Grown.{HasTerm-grown, IsGrown-refl, IsGrown-then}
 use Rattle.ss_vcgen_heaps.specs.Parts as heaps
 use Rattle.ss_vcgen_heaps.specs.Positions as positions
@@ -31,14 +30,15 @@ use Rattle.ss_vcgen_known.specs.declared.tests.Tests.TheVariants as tests
 use Rattle.ss_vcgen_known.specs.declared.tests.Tests.TheOpen as shape
 use Rattle.ss_vcgen_known.specs.declared.tests.Tests.TheFolds.{fold-roll-Tests}
 use Rattle.ss_vcgen_known.specs.Views.{known_of, tested, tests_step}
-use Rattle.ss_vcgen_walk.specs.Parts.{parts_at, HasParts, AreParts}
+use Rattle.ss_vcgen_walk.specs.Parts.{parts_at, AreParts}
 use Rattle.ss_vcgen_walk.specs.Reading.{Expressed}
 use Rattle.ss_vcgen_builder.specs.declared.builder.Builder.{Builder}
 use Rattle.ss_vcgen_builder.specs.declared.builder.Walk.{Walk}
 use Rattle.ss_vcgen_builder.specs.Builder.{locals_at, position_at, walk_at, HasLocals, IsFine, IsWalk, Becomes}
 use Rattle.ss_vcgen_builder.proofs.Held.{HasLocals-grown}
 use Rattle.ss_vcgen_builder.proofs.Builds.{becomes_then, becomes_so}
-use Rattle.ss_vcgen_statements.specs.Contexts.{or_else, StandsFor}
+use Rattle.ss_vcgen_statements.specs.Contexts.{or_else}
+use Rattle.ss_vcgen_express.specs.Contexts.{IsContext}
 
 -- ---- the terms of locals
 
@@ -58,7 +58,7 @@ context_from cs n e i ts ms m = record { classes = cs; now = n; entry = e; insid
 -- a context with the terms of the builder is that of its position
 pub context_stands : (s : Builder) (w : Walk) (a : Forms) (c : Context) (null : TermId) → IsFine s → IsWalk s.bank w → IsGrown s.bank a → HasTerm a null → term_at a null ≡ null_term →
     c.classes.now ≡ w.core.now.classes → c.now ≡ s.store → c.entry ≡ w.entry → c.inside_old ≡ false → c.types.items ≡ w.types.now → c.locals.items ≡ map (or_else null) s.locals.items → c.bound ≡ 0 →
-    StandsFor a c (λ b. positions.context_at (walk_at b w) (position_at b s))
+    IsContext a c (λ b. positions.context_at (walk_at b w) (position_at b s))
 context_stands s w a c null fine walk g has is classes now entry inside types locals bound = record {
   has = record {
     now = subst (λ (t : TermId). HasTerm a t) (sym now) (HasTerm-grown s.bank a g s.store fine.store);
@@ -87,15 +87,6 @@ pub drop_next : {X : Type 0} (xs : List X) (i : ℕ) (x : X) → i < length xs �
 drop_next xs i x lt is = drop_more xs i x lt ∙ ap (λ y. y ∷ drop (i + 1) xs) (sym is)
 
 -- ---- parts
-
-pub HasParts-get : (b : Forms) (ps : List Part) (i : ℕ) (d : Part) → HasParts b ps → i < length ps → HasFormula b (get_or ps i d).formula
-HasParts-get b [] i d h at = absurd (omega arith)
-HasParts-get b (p ∷ ps) zero d h at = h.0
-HasParts-get b (p ∷ ps) (suc i) d h at = HasParts-get b ps i d h.1 (omega arith)
-
--- what stands where a list has no part
-abbrev pub no_part : Part
-no_part = record { formula = record { 0 = 0 }; kind = kind.Null; place = record { line = 0; column = 0 }; checked = false }
 
 module _ (w : positions.Walk) where
   -- the first, and then the others
@@ -145,10 +136,10 @@ pub tested_nothing : (k : rules.Known) → tested tests.Nothing k ≡ k
 tested_nothing k = ap (λ x. tested x k) (sym tests.rolls-Nothing) ∙ ap (λ (f : rules.Known → rules.Known). f k) (fold-roll-Tests (rules.Known → rules.Known) tests_step shape.Nothing)
 
 module _ (s t : Builder) (w : Walk) (d : Forms) (c : Context) (m : Meant) (ps before : List Part) (e : ExprTree) where
-  pub walked_meant : StandsFor t.bank c (λ b. positions.context_at (walk_at b w) (position_at b s)) → IsGrown t.bank d → Walked t w d c m ps before e → IsMeant d m (λ b. positions.meant_at (walk_at b w) e (position_at b s))
+  pub walked_meant : IsContext t.bank c (λ b. positions.context_at (walk_at b w) (position_at b s)) → IsGrown t.bank d → Walked t w d c m ps before e → IsMeant d m (λ b. positions.meant_at (walk_at b w) e (position_at b s))
   walked_meant at g r = record { has = r.meant.has; is = λ b k. r.meant.is b k ∙ ap (spec.meant e) (at.is b (IsGrown-then t.bank d b g k)) }
 
-  pub walked_parts : w.types.now ≡ local_types (view.body w.body.now) → Becomes s t (λ b. position_at b s) → StandsFor t.bank c (λ b. positions.context_at (walk_at b w) (position_at b s)) → IsGrown t.bank d → before ≡ [] →
+  pub walked_parts : w.types.now ≡ local_types (view.body w.body.now) → Becomes s t (λ b. position_at b s) → IsContext t.bank c (λ b. positions.context_at (walk_at b w) (position_at b s)) → IsGrown t.bank d → before ≡ [] →
       Walked t w d c m ps before e → AreParts d ps (λ b. marked e (positions.site (walk_at b w)) (position_at b s).known (positions.context_at (walk_at b w) (position_at b s)))
   walked_parts types p at g none r = record {
     has = r.parts.has;

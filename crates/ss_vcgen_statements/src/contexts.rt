@@ -3,7 +3,8 @@
 ghost use Rattle.std.specs.Prelude.{◌≡◌, map, IfOk};
 ghost use Rattle.ss_vcgen_heaps.specs.Positions as positions;
 ghost use Rattle.ss_vcgen_builder.specs.Builder.{position_at, walk_at, IsFine, IsWalk, Becomes};
-ghost use Rattle.ss_vcgen_statements.specs.Contexts.{or_else, StandsFor};
+ghost use Rattle.ss_vcgen_statements.specs.Contexts.{or_else};
+ghost use Rattle.ss_vcgen_express.specs.Contexts.{IsContext};
 
 use ss_terms::{Symbol, TermId};
 use ss_vcgen_builder::{Builder, Walk};
@@ -33,7 +34,7 @@ fn local_terms(
 pub fn context<'p>(builder: &mut Builder, walk: &Walk<'p>) -> Result<Context<'p>, AllocError>
     requires fine { IsFine builder.old }
     requires walk { IsWalk builder.old.bank walk.now }
-    ensures at { IfOk result (λ c. StandsFor builder.new.bank c (λ b. positions.context_at (walk_at b walk.now) (position_at b builder.old))) }
+    ensures at { IfOk result (λ c. IsContext builder.new.bank c (λ b. positions.context_at (walk_at b walk.now) (position_at b builder.old))) }
     ensures stays { IfOk result (λ c. Becomes builder.old builder.new (λ b. position_at b builder.old)) }
 {
     let null = builder.bank.apply(Symbol::Null, &[])?;

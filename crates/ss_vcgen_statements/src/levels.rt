@@ -18,24 +18,14 @@ ghost use Rattle.ss_vcgen_builder.specs.Builder.{position_at, walk_at, IsFine, I
 ghost use Rattle.ss_vcgen_statements.specs.Words.{Stays, checked_unpack, checked_level, checked_invariants, full_where_owned};
 
 use crate::said::{applied_local, deny, deny_local, one_of, say, say_local};
-use ss_core::{ClassId, Expr, Kind, Place, Ty, is_non_null};
+use ss_core::{ClassId, Expr, Kind, Place, Ty};
 use ss_logic::Sort;
 use ss_terms::{FormulaId, Symbol, Term, TermId};
 use ss_vcgen_builder::{Builder, Walk};
 use ss_vcgen_express::{Context, Relation, Saying};
+use ss_vcgen_known::is_non_null_local;
 use ss_vcgen_walk::conditions;
 use std::alloc::AllocError;
-
-// A local whose type says that it isn't null.
-fn is_non_null_local(types: &[Ty], x: usize) -> bool
-    ensures { result ≡ is_non_null_type (slice_get types.now x) }
-{
-    if x < types.len() {
-        is_non_null(types[x])
-    } else {
-        false
-    }
-}
 
 // Whether the type of a local, or what is known, says that it isn't null.
 fn is_known_local(builder: &Builder, walk: &Walk<'_>, x: usize) -> bool

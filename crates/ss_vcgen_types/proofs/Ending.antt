@@ -8,10 +8,10 @@ use Rattle.ss_core.specs.declared.expr.Expr.TheOpen as shape
 use Rattle.ss_core.specs.declared.expr.Expr.TheOpen.{Link-F, Step-F}
 use Rattle.ss_core.specs.Tree.{ExprTree, BodyTree}
 use Rattle.ss_core.specs.View.{Behind, link_step, step_step}
+use Rattle.ss_core.specs.Parts.{link_behind, step_behind, chain_front, path_front}
 use Rattle.ss_store_rules.specs.Locals.{everywhere}
 use Rattle.ss_store_rules.specs.NonNull.{is_this_object}
 use Rattle.ss_store_rules.specs.Types.{is_allowed, in_code}
-use Rattle.ss_vcgen_types.specs.Fronts.{link_behind, step_behind, chain_front, path_front}
 use Rattle.ss_vcgen_types.proofs.Grouping.{link_shape, step_shape}
 use Rattle.ss_vcgen_types.proofs.Walking.{from_here}
 

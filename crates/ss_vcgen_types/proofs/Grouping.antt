@@ -19,7 +19,7 @@ use Rattle.ss_core.specs.declared.expr.Expr.TheOpen as shape
 use Rattle.ss_core.specs.declared.expr.Expr.TheOpen.{Link-F, Step-F}
 use Rattle.ss_core.specs.Tree.{ExprTree, BinaryExpr, IsExpr, AsExpr, FieldExpr, ElementExpr, LengthExpr}
 use Rattle.ss_core.specs.View.{Behind, grouped, expr, expr_step, link_step, step_step}
-use Rattle.ss_vcgen_types.specs.Fronts.{link_behind, step_behind, chain_front, path_front}
+use Rattle.ss_core.specs.Parts.{link_behind, step_behind, chain_front, path_front}
 
 -- ---- the trees of a chain and of a path
 

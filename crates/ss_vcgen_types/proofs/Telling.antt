@@ -7,12 +7,12 @@ use Rattle.ss_core.specs.declared.expr.Link.{Link}
 use Rattle.ss_core.specs.View.{Behind, step_step}
 use Rattle.ss_core.specs.declared.expr.Expr.TheOpen as shape
 use Rattle.ss_core.specs.declared.expr.Expr.TheOpen.{Step-F}
-use Rattle.ss_vcgen_types.specs.Fronts.{link_behind}
 use Rattle.ss_vcgen_types.proofs.Grouping.{link_shape}
 use Rattle.ss_vcgen_types.proofs.Forms.{link_no_local}
 use Rattle.ss_core.specs.declared.expr.Operator.{Operator}
 use Rattle.ss_core.specs.declared.expr.Operator.TheVariants as op
 use Rattle.ss_core.specs.Tree.{ExprTree, IntExpr, BoolExpr, NullExpr, LocalExpr, FieldExpr, ElementExpr, LengthExpr, NegateExpr, NotExpr, BinaryExpr, ImpliesExpr, IffExpr, IsExpr, AsExpr, CastExpr, OldExpr, QuantifiedExpr, StateExpr, OwnersExpr, DefaultExpr}
+use Rattle.ss_core.specs.Parts.{link_behind}
 use Rattle.ss_store_rules.specs.NonNull.{Facts, both, Known, is_null_literal, is_local_number, operation_facts, operation_tells, learned, tells, known_tested, known_right, side_facts}
 use Rattle.ss_vcgen_types.specs.declared.told.Told.{Told}
 use Rattle.ss_vcgen_types.specs.Told.{local_of, not_null, told_where, told_by_operation, told_by, facts_of, all_facts, tells_of, all_tell, with_told}

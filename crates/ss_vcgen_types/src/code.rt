@@ -5,9 +5,9 @@ ghost use Rattle.ss_core.specs.declared.names.Place.{Place as PlaceValue};
 ghost use Rattle.ss_core.specs.Chain.{most_classes};
 ghost use Rattle.ss_core.specs.Tree.{ExprTree};
 ghost use Rattle.ss_core.specs.View as view;
+ghost use Rattle.ss_core.specs.Parts.{link_behind, step_behind, chain_front, path_front};
 ghost use Rattle.ss_store_rules.specs.Locals.{is_result, local_types, everywhere};
 ghost use Rattle.ss_store_rules.specs.Types.{in_code, is_allowed, code_type};
-ghost use Rattle.ss_vcgen_types.specs.Fronts.{link_behind, step_behind, chain_front, path_front};
 
 use crate::expressions::type_of;
 use ss_core::{Body, Classes, Expr, Link, Step, Ty};

@@ -6,17 +6,18 @@ ghost use Rattle.ss_core.specs.declared.names.Ty.TheVariants as ty;
 ghost use Rattle.ss_core.specs.Chain.{most_classes};
 ghost use Rattle.ss_core.specs.Tree.{ExprTree};
 ghost use Rattle.ss_core.specs.View.{classes, expr};
+ghost use Rattle.ss_core.specs.Types.{nullable};
+ghost use Rattle.ss_core.specs.Parts.{link_behind, step_behind, chain_front, path_front};
 ghost use Rattle.ss_store_rules.specs.Numbers.{fits};
-ghost use Rattle.ss_store_rules.specs.Types.{plain, where_typed, is_bool, type_of};
-ghost use Rattle.ss_vcgen_types.specs.Fronts.{link_behind, step_behind, chain_front, path_front};
+ghost use Rattle.ss_store_rules.specs.Types.{where_typed, is_bool, type_of};
 ghost use Rattle.ss_vcgen_types.specs.Names.{types_of_names};
 
 use crate::names::Names;
 use crate::types::{
     class_type, element_read_type, field_read_type, has_length, is_bool, is_class, is_int,
-    is_owners_word, is_reference, is_word, operation_type, plain, where_typed,
+    is_owners_word, is_reference, is_word, operation_type, where_typed,
 };
-use ss_core::{Classes, Expr, Link, Step, Ty};
+use ss_core::{Classes, Expr, Link, Step, Ty, nullable};
 
 // The type of a number of 32 bits.
 fn number_type(number: i32) -> Option<Ty>
@@ -28,10 +29,10 @@ fn number_type(number: i32) -> Option<Ty>
 
 // The type of a local or of a bound name.
 fn local_type(names: &Names<'_>, x: usize) -> Option<Ty>
-    ensures { result ≡ option_map plain (slice_get (types_of_names names.now) x) }
+    ensures { result ≡ option_map nullable (slice_get (types_of_names names.now) x) }
 {
     match names.type_at(x) {
-        Some(ty) => Some(plain(ty)),
+        Some(ty) => Some(nullable(ty)),
         None => None,
     }
 }

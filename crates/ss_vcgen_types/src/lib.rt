@@ -16,4 +16,4 @@ pub use code::code_type;
 pub use expressions::{link_type, step_type, type_of};
 pub use told::{Told, tell_link, told_by};
 pub use type_context::TypeContext;
-pub use types::{element_of, field_class, field_type, is_bool, is_non_null_type};
+pub use types::{element_of, field_class, field_type, is_bool};

@@ -6,7 +6,7 @@ ghost use Rattle.ss_vcgen_types.specs.declared.told.Told.TheVariants as told;
 ghost use Rattle.ss_core.specs.declared.names.Place.{Place as PlaceValue};
 ghost use Rattle.ss_core.specs.Tree.{ExprTree};
 ghost use Rattle.ss_core.specs.View.{expr};
-ghost use Rattle.ss_vcgen_types.specs.Fronts.{link_behind, chain_front};
+ghost use Rattle.ss_core.specs.Parts.{link_behind, chain_front};
 ghost use Rattle.ss_vcgen_types.specs.Told.{local_of, not_null, told_where, told_by, told_by_operation};
 
 use crate::atoms::{is_null_literal, local_of};

@@ -6,35 +6,9 @@ ghost use Rattle.ss_core.specs.Chain.{is_class, below, all_fields, most_classes}
 ghost use Rattle.ss_core.specs.Kinds.{is_array_number};
 ghost use Rattle.ss_core.specs.View.{classes, word_tree, owners_tree};
 ghost use Rattle.ss_store_rules.specs.Changes.{is_array, element_type, field_class, field_type};
-ghost use Rattle.ss_store_rules.specs.NonNull.{is_non_null_type};
-ghost use Rattle.ss_store_rules.specs.Types.{plain, class_type, where_typed, is_int, is_bool, is_reference, has_class, field_read_type, element_of, element_read_type, are_comparable, operation_type, is_word, is_owners_word};
+ghost use Rattle.ss_store_rules.specs.Types.{class_type, where_typed, is_int, is_bool, is_reference, has_class, field_read_type, element_of, element_read_type, are_comparable, operation_type, is_word, is_owners_word};
 
-use ss_core::{ClassId, Classes, FieldId, Operator, OwnerTest, StateWord, Ty, is_non_null};
-
-/// Whether there is a type, and a value of it is never null.
-pub fn is_non_null_type(ty: Option<Ty>) -> bool
-    ensures { result ≡ is_non_null_type ty }
-{
-    match ty {
-        Some(ty) => is_non_null(ty),
-        None => false,
-    }
-}
-
-// The type without its `!`.
-pub(crate) fn plain(ty: Ty) -> Ty
-    ensures { result ≡ plain ty }
-{
-    match ty {
-        Ty::Int => Ty::Int,
-        Ty::Bool => Ty::Bool,
-        Ty::Null => Ty::Null,
-        Ty::Ref { class, .. } => Ty::Ref {
-            class,
-            non_null: false,
-        },
-    }
-}
+use ss_core::{ClassId, Classes, FieldId, Operator, OwnerTest, StateWord, Ty, nullable};
 
 pub(crate) fn where_typed(condition: bool, ty: Ty) -> Option<Ty>
     ensures { result ≡ where_typed condition ty }
@@ -151,7 +125,7 @@ pub(crate) fn field_read_type(list: &Classes, ty: Option<Ty>, field: FieldId) ->
     ensures { result ≡ field_read_type (classes list.now) ty (slice_get (all_fields (classes list.now)) field.0) }
 {
     match list.field(field) {
-        Some((class, field)) => where_typed(has_level(list, ty, class), plain(field.ty)),
+        Some((class, field)) => where_typed(has_level(list, ty, class), nullable(field.ty)),
         None => None,
     }
 }

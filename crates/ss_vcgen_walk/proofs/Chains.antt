@@ -9,7 +9,7 @@ use Rattle.ss_core.specs.declared.expr.Expr.TheVariants.{Chain, rolls-Chain, Pat
 use Rattle.ss_core.specs.declared.expr.Expr.TheOpen as shape
 use Rattle.ss_core.specs.Tree.{ExprTree}
 use Rattle.ss_core.specs.View.{Behind, expr_step, link_step, step_step, expr}
-use Rattle.ss_vcgen_types.specs.Fronts.{chain_front, path_front}
+use Rattle.ss_core.specs.Parts.{chain_front, path_front}
 
 pub chain_so : (e : Expr) (p : Place) (first : Box Expr Global) (links : Vec Link Global) (x : Expr) (ls : List Link) → e ≡ Chain p first links → x ≡ first.value → ls ≡ links.items → chain_front p (expr x) ls ≡ expr e
 chain_so e p first links x ls is h k =

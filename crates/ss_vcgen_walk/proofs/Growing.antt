@@ -8,11 +8,12 @@ use Rattle.ss_logic.specs.Express as spec
 use Rattle.ss_terms.specs.declared.forms.TermId.{TermId}
 use Rattle.ss_terms.specs.Forms.{Forms, term_at, HasTerm, HasTerms, HasFormula, IsGrown}
 use Rattle.ss_terms.proofs.Grown.{HasFormula-grown}
+use Rattle.ss_terms.proofs.Longer.{HasTerms-push}
 use Rattle.ss_vcgen_walk.specs.declared.parts.Part.{Part}
 use Rattle.ss_vcgen_express.specs.declared.context.Context.{Context}
-use Rattle.ss_vcgen_express.specs.Contexts.{local_at, context_at, state_of, HasContext}
+use Rattle.ss_vcgen_express.specs.Contexts.{local_at, context_at, state_of, HasContext, IsContext}
 use Rattle.ss_vcgen_express.proofs.Contexts.{HasContext-grown}
-use Rattle.ss_vcgen_walk.specs.Reading.{IsContext, IsWithName}
+use Rattle.ss_vcgen_walk.specs.Reading.{IsWithName}
 use Rattle.ss_vcgen_walk.specs.Parts.{marked_at, parts_at, HasParts}
 
 module _ {a b : Forms} (g : IsGrown a b) where
@@ -49,10 +50,6 @@ state_if b false x y = refl
 -- the store that is spoken of
 pub state_is : (b : Forms) (c : Context) → term_at b (state_of c) ≡ spec.state (context_at b c)
 state_is b c = state_if b c.inside_old c.entry c.now
-
-HasTerms-push : (b : Forms) (ts : List TermId) (t : TermId) → HasTerms b ts → HasTerm b t → HasTerms b (ts ++ t ∷ [])
-HasTerms-push b [] t h at = (at, tt)
-HasTerms-push b (u ∷ us) t h at = (h.0, HasTerms-push b us t h.1 at)
 
 -- one more local, which is a bound name
 pub with_name_is : {E : Type 0} (r : Result Context E) (a d : Forms) (old : Context) (name : TermId) → IsGrown a d → HasContext a old → HasTerm d name → term_at d name ≡ Bound old.bound → IfOk r (λ c. IsWithName old name c) →

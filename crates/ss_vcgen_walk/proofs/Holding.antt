@@ -16,7 +16,7 @@ use Rattle.ss_vcgen_express.specs.declared.context.Context.{Context}
 use Rattle.ss_vcgen_express.specs.Marked.{Marked, marked, formulas_of}
 use Rattle.ss_vcgen_express.specs.Numbers.{IsFormula, AreFormulas}
 use Rattle.ss_vcgen_express.specs.Contexts.{context_at}
-use Rattle.ss_vcgen_express.proofs.Grown.{HasFormulas-push}
+use Rattle.ss_terms.proofs.Longer.{HasFormulas-push}
 use Rattle.ss_vcgen_express.proofs.Marking.{marked_are_defined}
 use Rattle.ss_vcgen_walk.specs.declared.parts.Part.{Part}
 use Rattle.ss_vcgen_walk.specs.Parts.{parts_at, HasParts}

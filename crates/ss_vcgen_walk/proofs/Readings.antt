@@ -25,7 +25,7 @@ use Rattle.ss_vcgen_express.specs.declared.meant.Meant.{Meant}
 use Rattle.ss_vcgen_express.specs.declared.context.Context.{Context}
 use Rattle.ss_vcgen_express.specs.Marked.{Marked, marked, marked_part, marked_word, with_marked, in_range}
 use Rattle.ss_vcgen_express.specs.Numbers.{meant_at, IsMeant, AreFormulas}
-use Rattle.ss_vcgen_express.specs.Contexts.{context_at, for_each, quantified_over}
+use Rattle.ss_vcgen_express.specs.Contexts.{context_at, for_each, quantified_over, IsContext}
 use Rattle.ss_vcgen_express.proofs.Grown.{HasMeant-grown}
 use Rattle.ss_vcgen_express.proofs.Contexts.{quantified_said-over}
 use Rattle.ss_vcgen_heaps.specs.Parts.{is_upwards, fits_class}
@@ -38,7 +38,7 @@ use Rattle.ss_vcgen_walk.specs.declared.twos.Two.TheVariants as two
 use Rattle.ss_vcgen_walk.specs.Asked.{asked_null, asked_word}
 use Rattle.ss_vcgen_walk.specs.Forms.{single_meant, single_asks, two_meant, two_asks, cast_asks}
 use Rattle.ss_vcgen_walk.specs.Parts.{parts_at, HasParts, AreParts}
-use Rattle.ss_vcgen_walk.specs.Reading.{Expressed, IsContext}
+use Rattle.ss_vcgen_walk.specs.Reading.{Expressed}
 use Rattle.ss_vcgen_walk.specs.NullContexts.{type_context_at, known_at, Reads}
 use Rattle.ss_vcgen_walk.proofs.Growing.{HasParts-grown}
 use Rattle.ss_vcgen_walk.proofs.Composing.{single_behind, first_behind}

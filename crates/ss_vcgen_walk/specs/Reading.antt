@@ -10,7 +10,7 @@ use Rattle.ss_vcgen_express.specs.declared.meant.Meant.{Meant}
 use Rattle.ss_vcgen_express.specs.declared.context.Context.{Context}
 use Rattle.ss_vcgen_express.specs.Marked.{Marked, formulas_of}
 use Rattle.ss_vcgen_express.specs.Numbers.{IsMeant}
-use Rattle.ss_vcgen_express.specs.Contexts.{context_at, HasContext}
+use Rattle.ss_vcgen_express.specs.Contexts.{context_at}
 use Rattle.ss_vcgen_walk.specs.declared.parts.Part.{Part}
 use Rattle.ss_vcgen_walk.specs.Parts.{parts_at, HasParts, AreParts}
 
@@ -18,11 +18,6 @@ use Rattle.ss_vcgen_walk.specs.Parts.{parts_at, HasParts, AreParts}
 pub record Expressed (a : Forms) (m : Meant) (ps : List Part) (says : Forms → spec.Meant) (say : Forms → List Marked) : Type 0 where
   pub meant : IsMeant a m says
   pub parts : AreParts a ps say
-
--- the bank has the terms of the context, and in it and in each that it grows to they stand for this
-pub record IsContext (a : Forms) (c : Context) (says : Forms → spec.Context) : Type 0 where
-  pub has : HasContext a c
-  pub is : (b : Forms) → IsGrown a b → context_at b c ≡ says b
 
 -- it has one more local, a bound name
 pub record IsWithName (old : Context) (name : TermId) (new : Context) : Type 0 where

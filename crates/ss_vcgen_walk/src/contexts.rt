@@ -3,8 +3,8 @@
 ghost use Rattle.std.specs.Prelude.{◌≡◌, ◌+◌, IfOk};
 ghost use Rattle.ss_logic.specs.Express as spec;
 ghost use Rattle.ss_terms.specs.Forms.{Forms, IsGrown};
-ghost use Rattle.ss_vcgen_express.specs.Contexts.{context_at, HasContext};
-ghost use Rattle.ss_vcgen_walk.specs.Reading.{IsContext, IsWithName};
+ghost use Rattle.ss_vcgen_express.specs.Contexts.{context_at, HasContext, IsContext};
+ghost use Rattle.ss_vcgen_walk.specs.Reading.{IsWithName};
 
 use ss_core::Ty;
 use ss_terms::{Bank, Term, TermId};

@@ -2,7 +2,8 @@ use Rattle.std.proofs.Common.{map, sym, ap, arith, ◌∙◌}
 use Rattle.ss_core.specs.View as view
 use Rattle.ss_terms.specs.Forms.{formula_at, formulas_at}
 use Rattle.ss_terms.proofs.Grown.{IsGrown-then, HasFormulas-grown, IsBankOf-grown}
-use Rattle.ss_terms_puts.proofs.Putting.{AreBelow-get, AreBelow-push, formulas_more, formula_equal}
+use Rattle.ss_terms_puts.proofs.Putting.{AreBelow-push, formulas_more, formula_equal}
+use Rattle.ss_terms.proofs.Tested.{AreBelow-get}
 use Rattle.ss_check.specs.Delayed.{meant}
 use Rattle.ss_check.proofs.Meant.{meant_formed, meant_or, other_meant}
 use Rattle.ss_check.proofs.delayed.+meaning.Goals as goal

@@ -3,7 +3,8 @@ use Rattle.ss_core.specs.View as view
 use Rattle.ss_logic.specs.Formulas.{put}
 use Rattle.ss_terms.specs.Forms.{term_at}
 use Rattle.ss_terms.proofs.Grown.{IsGrown-then, HasTerm-grown, HasFormulas-grown, IsBankOf-grown}
-use Rattle.ss_terms_puts.proofs.Putting.{AreBelow-get, AreBelow-push}
+use Rattle.ss_terms_puts.proofs.Putting.{AreBelow-push}
+use Rattle.ss_terms.proofs.Tested.{AreBelow-get}
 use Rattle.ss_check.proofs.Meant.{meant_more}
 use Rattle.ss_check.proofs.delayed.delay_parts.Goals as goal
 

@@ -1,4 +1,4 @@
-use Rattle.ss_terms_puts.proofs.Putting.{AreBelow-get}
+use Rattle.ss_terms.proofs.Tested.{AreBelow-get}
 use Rattle.ss_check.proofs.told.are_formed.Goals as goal
 
 pub is_well_formed-requires : goal.is_well_formed-requires

@@ -3,7 +3,7 @@ use Rattle.ss_core.specs.View as view
 use Rattle.ss_logic_means.specs.Steps.{choice}
 use Rattle.ss_terms.specs.Forms.{terms_at, formula_at, formulas_at}
 use Rattle.ss_terms.proofs.Grown.{HasTerms-grown, HasFormula-grown, HasFormulas-grown, IsBankOf-grown}
-use Rattle.ss_check_steps.specs.Numbered.{IsNumberOf}
+use Rattle.ss_terms.specs.Numbered.{IsNumberOf}
 use Rattle.ss_check.specs.Delayed.{meant}
 use Rattle.ss_check.proofs.Meant.{known_formed, number_there, choice_moved}
 use Rattle.ss_check.proofs.told.told_choice.Goals as goal

@@ -1,8 +1,9 @@
 use Rattle.std.proofs.Common.{◌≡◌, ◌++◌, ◌∷◌, [], take, map, sym, ap, ◌∙◌, add-one, suc}
 use Rattle.ss_typed.specs.View.{expr}
 use Rattle.ss_core.specs.View as core
+use Rattle.ss_core.specs.Parts as core_parts
 use Rattle.ss_expand_rules.specs.Numbers.{plain}
-use Rattle.ss_expand_expressions.specs.Views.{numbers_of, core_linked, path_of, core_link_behind, plain_step_behind}
+use Rattle.ss_expand_expressions.specs.Views.{numbers_of, path_of, plain_step_behind}
 use Rattle.ss_typed.specs.Parts.{linked, stepped}
 use Rattle.ss_expand_expressions.proofs.Shapes.{linked_next, stepped_next, core_linked_push}
 use Rattle.ss_expand_expressions.proofs.expressions.+plain.Goals as goal
@@ -13,9 +14,9 @@ plain_links-loop-link-preserved t c = λ p before.
     let links = c.args.links.now in
     let i = c.loop-link.link-index in
     let link = c.in_ok-plain_link.field-0 in
-    ap (λ ls. core_linked p (plain ns before) ls) c.in_ok-push.ensures.items
+    ap (λ ls. core_parts.chain_front p (plain ns before) ls) c.in_ok-push.ensures.items
     ∙ core_linked_push p (plain ns before) c.loop-link.list.items link
-    ∙ ap (λ e. core_link_behind link p e) (c.loop-link.invariant p before)
+    ∙ ap (λ e. core_parts.link_behind link p e) (c.loop-link.invariant p before)
     ∙ c.in_ok-plain_link.ensures p (linked p before (take i links))
     ∙ ap (plain ns) (sym (linked_next p before links i c.link-item.result c.loop-link-test.true c.link-item.is))
     ∙ ap (λ k. plain ns (linked p before (take k links))) (sym (add-one i))

@@ -1,6 +1,6 @@
 use Rattle.std.proofs.Common.{◌∙◌, refl, get_or}
 use Rattle.ss_terms.proofs.Grown.{IsGrown-then, HasTerm-grown}
-use Rattle.ss_terms_puts.proofs.Putting.{AreTermsBelow-get}
+use Rattle.ss_terms.proofs.Tested.{AreTermsBelow-get}
 use Rattle.ss_logic.specs.Frames.{the_object}
 use Rattle.ss_frames.specs.Calls.{group_at}
 use Rattle.ss_frames.proofs.Growing.{IsTerm-grown, next_made, group_at-grown}

@@ -5,7 +5,7 @@ use Rattle.ss_logic.specs.Frames.{the_object}
 use Rattle.ss_terms.specs.declared.forms.TermId.{TermId}
 use Rattle.ss_terms.specs.Forms.{term_at, HasTerms}
 use Rattle.ss_terms.proofs.Grown.{IsGrown-then, HasTerm-grown}
-use Rattle.ss_terms_puts.proofs.Putting.{AreTermsBelow-get}
+use Rattle.ss_terms.proofs.Tested.{AreTermsBelow-get}
 use Rattle.ss_frames.proofs.Growing.{IsTerm-grown, next_made, map-map}
 use Rattle.ss_frames.proofs.bound.outside.Goals as goal
 

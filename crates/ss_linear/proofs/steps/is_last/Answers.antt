@@ -4,7 +4,7 @@ use Rattle.std.specs.Int.{w64, w128}
 use Rattle.std.proofs.lemmas.Int.{ints}
 use Rattle.ss_linear_sums.specs.Linear.{sum_at}
 use Rattle.ss_linear_rules.proofs.Few.{gives_false}
-use Rattle.ss_linear.proofs.Glue.{one_is}
+use Rattle.ss_linear_rules.proofs.Cancelling.{one_is}
 use Rattle.ss_linear.proofs.steps.is_last.Goals as goal
 
 pub returns : goal.returns

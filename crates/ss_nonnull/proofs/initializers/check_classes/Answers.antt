@@ -1,6 +1,6 @@
 use Rattle.std.proofs.Common.{◌+◌, ℕ, length, ap, ◌∙◌}
 use Rattle.std.specs.Prelude.{slice_get}
-use Rattle.ss_paths.specs.Fields.{fields_in}
+use Rattle.ss_core.specs.Chain.{fields_of}
 use Rattle.ss_typed.specs.View.{typed}
 use Rattle.ss_nonnull.proofs.Initials.{one_class, all_classes, next_first}
 use Rattle.ss_nonnull.proofs.initializers.check_classes.Goals as goal
@@ -11,7 +11,7 @@ loop-place-preserved c =
     let l = c.loop-place in
     record {
       first =
-          c.in_ok-first.ensures.first ∙ ap (λ (n : ℕ). n + length (fields_in (slice_get p.classes l.place))) l.invariant.first
+          c.in_ok-first.ensures.first ∙ ap (λ (n : ℕ). n + length (fields_of (slice_get p.classes l.place))) l.invariant.first
           ∙ next_first p.classes l.place;
       noted =
           one_class p c.args.list.now l.place c.index-list-place.result l.first l.found.items _ _ c.requires c.loop-place-test.true c.index-list-place.is

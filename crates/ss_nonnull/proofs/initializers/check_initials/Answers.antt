@@ -3,7 +3,7 @@ use Rattle.std.specs.Prelude.{option_map}
 use Rattle.std.specs.Borrow.{Bor}
 use Rattle.ss_core.specs.declared.class.Class.{Class}
 use Rattle.ss_core.specs.View.{class_of}
-use Rattle.ss_paths.specs.Fields.{fields_in}
+use Rattle.ss_core.specs.Chain.{fields_of}
 use Rattle.ss_typed.specs.View.{field}
 use Rattle.ss_nonnull_seen.specs.Codes.{path_of, context_of}
 use Rattle.ss_nonnull.specs.Initial.{begun_with, type_of_field}
@@ -19,7 +19,7 @@ loop-place-init c = record {
 pub loop-place-preserved : goal.loop-place-preserved
 loop-place-preserved c =
     let l = c.loop-place in
-    let gs = fields_in (option_map (λ (d : Bor Class). class_of d.now) c.args.class) in
+    let gs = fields_of (option_map (λ (d : Bor Class). class_of d.now) c.args.class) in
     record {
       known =
           next_begun c.args.fields.now l.place c.index-fields-place.result _ (path_of l.known) _ c.loop-place-test.true c.index-fields-place.is
@@ -31,5 +31,5 @@ loop-place-preserved c =
 
 pub returns : goal.returns
 returns c =
-    let gs = fields_in (option_map (λ (d : Bor Class). class_of d.now) c.args.class) in
+    let gs = fields_of (option_map (λ (d : Bor Class). class_of d.now) c.args.class) in
     all_initial (context_of c.args.context.now) c.args.fields.now gs c.loop-place.place c.loop-place.found.items _ c.loop-place-test.false c.loop-place.invariant.noted

@@ -3,7 +3,7 @@ use Rattle.std.specs.Prelude.{IfOk}
 use Rattle.ss_core.specs.View as view
 use Rattle.ss_logic.specs.Reads.{look_from}
 use Rattle.ss_terms.specs.Forms.{term_at, terms_at}
-use Rattle.ss_rules_basic.specs.Arguments.{IsInstance}
+use Rattle.ss_terms.specs.Numbered.{IsNumberOf}
 use Rattle.ss_rules_basic.specs.Looks.{look_in}
 use Rattle.ss_rules_good.proofs.Fits.{ready_fit, ready_none}
 use Rattle.ss_rules_good.proofs.ready.ready_named.Goals as goal
@@ -11,7 +11,7 @@ use Rattle.ss_rules_good.proofs.ready.ready_named.Goals as goal
 pub returns-in-Some-clause-at : goal.returns-in-Some-clause-at
 returns-in-Some-clause-at c =
     let b = c.args.b.now in
-    subst (λ x. IfOk c.ready_read.result (λ r. IsInstance c.ready_read.new.b r x))
+    subst (λ x. IfOk c.ready_read.result (λ r. IsNumberOf c.ready_read.new.b r x))
     (ready_fit (view.classes c.args.classes.now) (term_at b c.args.s) (look_from (term_at b c.args.kind) (terms_at b c.args.arguments.now)) (look_in b c.in-Some.look) c.in-Some.ensures.1)
     c.ready_read.ensures.at
 

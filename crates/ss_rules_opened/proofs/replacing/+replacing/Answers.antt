@@ -2,7 +2,8 @@ use Rattle.std.proofs.Common.{map, ap, arith, ◌∙◌}
 use Rattle.ss_logic.specs.Opened.{replaced}
 use Rattle.ss_terms.specs.Forms.{formula_at, formulas_at}
 use Rattle.ss_terms.proofs.Grown.{IsGrown-then, HasFormula-grown, HasFormulas-grown}
-use Rattle.ss_terms_puts.proofs.Putting.{AreBelow-get, AreBelow-push, formulas_more, formula_equal}
+use Rattle.ss_terms_puts.proofs.Putting.{AreBelow-push, formulas_more, formula_equal}
+use Rattle.ss_terms.proofs.Tested.{AreBelow-get}
 use Rattle.ss_rules_opened.proofs.Replaced.{replaced_and, replaced_or, replaced_forall, replaced_exists}
 use Rattle.ss_rules_opened.proofs.replacing.+replacing.Goals as goal
 

@@ -3,7 +3,7 @@ use Rattle.std.specs.Prelude.{IfOk}
 use Rattle.ss_core.specs.View as view
 use Rattle.ss_logic.specs.Reads.{look_from}
 use Rattle.ss_terms.specs.Forms.{term_at, terms_at, HasTerms}
-use Rattle.ss_rules_basic.specs.Arguments.{IsInstance}
+use Rattle.ss_terms.specs.Numbered.{IsNumberOf}
 use Rattle.ss_rules_basic.specs.Looks.{look_in}
 use Rattle.ss_rules_reads.proofs.Instances.{look_fits, moved_named, moved_unnamed, HasTerms-front, HasTerms-last}
 use Rattle.ss_rules_reads.proofs.read.moved_rule.Goals as goal
@@ -22,7 +22,7 @@ moved_read-requires-clause-fits c =
 pub returns-in-Some-read_named-clause-at : goal.returns-in-Some-read_named-clause-at
 returns-in-Some-read_named-clause-at c =
     let b = c.args.b.now in
-    subst (λ x. IfOk c.moved_read.result (λ r. IsInstance c.moved_read.new.b r x))
+    subst (λ x. IfOk c.moved_read.result (λ r. IsNumberOf c.moved_read.new.b r x))
     (moved_named (view.classes c.args.classes.now) b (term_at b c.args.s) (term_at b c.args.kind) c.args.arguments.now c.in-Some.front.now c.in-Some.t c.in-Some.ensures.some (look_in b c.in-Some-read_named.look) c.in-Some-read_named.ensures.1)
     c.moved_read.ensures.at
 

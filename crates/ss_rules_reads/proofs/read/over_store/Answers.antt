@@ -4,7 +4,7 @@ use Rattle.ss_core.specs.View as view
 use Rattle.ss_logic.specs.Terms.{App, terms_from}
 use Rattle.ss_terms.specs.Forms.{HasTerms, symbol_of, term_at, terms_at}
 use Rattle.ss_terms.proofs.Trees.{AreTermsBelow-more}
-use Rattle.ss_rules_basic.specs.Arguments.{IsInstance}
+use Rattle.ss_terms.specs.Numbered.{IsNumberOf}
 use Rattle.ss_rules_basic.specs.Looks.{look_in}
 use Rattle.ss_rules_reads.proofs.Instances.{over_app, over_unread, over_unsorted}
 use Rattle.ss_rules_reads.proofs.read.over_store.Goals as goal
@@ -33,7 +33,7 @@ returns-in_ok-arguments-in-App-clause-at c =
     let f = symbol_of c.in-App.symbol in
     let n = rw c.in-App.is at c.term_node.ensures in
     let same = c.deref-in-App.ensures.value ∙ c.in_ok-arguments-in-App.ensures.items ∙ c.deref.ensures.value in
-    subst (λ x. IfOk c.over_form.result (λ r. IsInstance c.over_form.new.b r x))
+    subst (λ x. IfOk c.over_form.result (λ r. IsNumberOf c.over_form.new.b r x))
     (over_app cs (look_in b c.args.look) (term_at b c.args.s) f (terms_at b c.deref-in-App.result.now) (n.built ∙ ap (λ ts. App f (terms_from (terms_at b ts))) (sym same))
     (sym (c.if-not-looks_at_store.ensures b)) c.requires.fits (sym (c.if-not-is_well_sorted.ensures cs c.requires.bank)))
     c.over_form.ensures.at

@@ -6,7 +6,8 @@ use Rattle.ss_logic_countermodels.specs.Refuting.{is_whole}
 use Rattle.ss_terms.specs.declared.forms.TermId.{TermId}
 use Rattle.ss_terms.specs.Forms.{term_at, terms_at, HasTerms}
 use Rattle.ss_terms.proofs.Tested.{AreTermsBelow-get}
-use Rattle.ss_search_reached.proofs.Sums.{HasTerms-push, filtered_in, filtered_out}
+use Rattle.ss_search_reached.proofs.Sums.{filtered_in, filtered_out}
+use Rattle.ss_terms.proofs.Longer.{HasTerms-push}
 use Rattle.ss_search_reached.proofs.basics.whole.Goals.{then-is_whole+in_ok-push, else-is_whole}
 use Rattle.ss_search_reached.proofs.basics.whole.Goals as goal
 

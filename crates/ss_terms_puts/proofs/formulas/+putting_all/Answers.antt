@@ -3,7 +3,8 @@ use Rattle.ss_core.specs.View as view
 use Rattle.ss_logic.specs.Formulas.{put}
 use Rattle.ss_terms.specs.Forms.{terms_at, formulas_at}
 use Rattle.ss_terms.proofs.Grown.{IsGrown-then, HasTerms-grown, HasFormulas-grown, terms_at-grown, IsBankOf-grown}
-use Rattle.ss_terms_puts.proofs.Putting.{AreBelow-get, AreBelow-push, formulas_more, put_and, put_or, formula_equal}
+use Rattle.ss_terms_puts.proofs.Putting.{AreBelow-push, formulas_more, put_and, put_or, formula_equal}
+use Rattle.ss_terms.proofs.Tested.{AreBelow-get}
 use Rattle.ss_terms_puts.proofs.formulas.+putting_all.Goals as goal
 
 pub put-returns-in_ok-parts-in-And-2-clause-at : goal.put-returns-in_ok-parts-in-And-2-clause-at

@@ -3,7 +3,8 @@ use Rattle.ss_core.specs.View as view
 use Rattle.ss_logic.specs.Frames.{lifted}
 use Rattle.ss_terms.specs.Forms.{formulas_at}
 use Rattle.ss_terms.proofs.Grown.{IsGrown-then, HasFormulas-grown, IsBankOf-grown}
-use Rattle.ss_terms_puts.proofs.Putting.{AreBelow-get, AreBelow-push, formulas_more, formula_equal}
+use Rattle.ss_terms_puts.proofs.Putting.{AreBelow-push, formulas_more, formula_equal}
+use Rattle.ss_terms.proofs.Tested.{AreBelow-get}
 use Rattle.ss_terms_puts.proofs.Lifting.{lift_and, lift_or}
 use Rattle.ss_terms_puts.proofs.lifts_formulas.+lifting_all.Goals as goal
 

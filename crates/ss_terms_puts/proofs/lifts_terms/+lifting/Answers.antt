@@ -3,7 +3,8 @@ use Rattle.ss_core.specs.View as view
 use Rattle.ss_logic.specs.Frames.{lifted_term}
 use Rattle.ss_terms.specs.Forms.{term_at, terms_at}
 use Rattle.ss_terms.proofs.Grown.{IsGrown-then, HasTerms-grown, IsBankOf-grown}
-use Rattle.ss_terms_puts.proofs.Putting.{AreTermsBelow-get, AreTermsBelow-push, terms_more, term_equal}
+use Rattle.ss_terms_puts.proofs.Putting.{AreTermsBelow-push, terms_more, term_equal}
+use Rattle.ss_terms.proofs.Tested.{AreTermsBelow-get}
 use Rattle.ss_terms_puts.proofs.Lifting.{closed_term, lift_app}
 use Rattle.ss_terms_puts.proofs.lifts_terms.+lifting.Goals as goal
 

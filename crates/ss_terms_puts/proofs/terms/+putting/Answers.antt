@@ -3,7 +3,8 @@ use Rattle.ss_core.specs.View as view
 use Rattle.ss_logic.specs.Formulas.{put_term}
 use Rattle.ss_terms.specs.Forms.{term_at, terms_at}
 use Rattle.ss_terms.proofs.Grown.{IsGrown-then, HasTerms-grown, terms_at-grown, IsBankOf-grown}
-use Rattle.ss_terms_puts.proofs.Putting.{AreTermsBelow-get, AreTermsBelow-push, terms_more, put_app, term_equal, closed_put}
+use Rattle.ss_terms_puts.proofs.Putting.{AreTermsBelow-push, terms_more, put_app, term_equal, closed_put}
+use Rattle.ss_terms.proofs.Tested.{AreTermsBelow-get}
 use Rattle.ss_terms_puts.proofs.terms.+putting.Goals as goal
 
 pub put_term-returns-then-is_well_sorted-clause-at : goal.put_term-returns-then-is_well_sorted-clause-at

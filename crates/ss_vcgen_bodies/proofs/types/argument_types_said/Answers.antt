@@ -9,10 +9,11 @@ use Rattle.ss_terms.specs.Forms.{Forms, term_at}
 use Rattle.ss_terms.proofs.Grown.{IsGrown-then, HasTerm-grown}
 use Rattle.ss_vcgen_heaps.specs.Positions.{Position}
 use Rattle.ss_vcgen_heaps.specs.Obligations as spec
-use Rattle.ss_vcgen_builder.specs.Builder.{local_at, position_at, walk_at, HasLocal}
+use Rattle.ss_vcgen_builder.specs.Builder.{local_at, position_at, walk_at}
+use Rattle.ss_terms.specs.Numbered.{HasTermOf}
 use Rattle.ss_vcgen_statements.proofs.Steps.{formulas_are}
 use Rattle.ss_vcgen_bodies.specs.Words.{flat, entry_type}
-use Rattle.ss_vcgen_bodies.proofs.Keeping.{local_found, HasLocal-found, entry_next}
+use Rattle.ss_vcgen_bodies.proofs.Keeping.{local_found, HasTermOf-found, entry_next}
 use Rattle.ss_vcgen_bodies.proofs.Making.{no_formula_made, formulas_on, formulas_made}
 use Rattle.ss_vcgen_bodies.proofs.types.argument_types_said.Goals as goal
 
@@ -25,8 +26,8 @@ entry_type-requires-clause-store c = HasTerm-grown c.args.builder.now.bank c.loo
 pub entry_type-requires-clause-now : goal.entry_type-requires-clause-now
 entry_type-requires-clause-now c =
     let t = c.loop-x.builder in
-    subst (λ (o : Option TermId). HasLocal t.bank o) (sym (c.local_in-now.ensures ∙ ap (λ (ls : List (Option TermId)). flat (slice_get ls c.loop-x.x)) c.deref.ensures.value))
-    (HasLocal-found t.bank t.locals.items c.loop-x.x c.loop-x.invariant.stays.fine.locals)
+    subst (λ (o : Option TermId). HasTermOf t.bank o) (sym (c.local_in-now.ensures ∙ ap (λ (ls : List (Option TermId)). flat (slice_get ls c.loop-x.x)) c.deref.ensures.value))
+    (HasTermOf-found t.bank t.locals.items c.loop-x.x c.loop-x.invariant.stays.fine.locals)
 
 pub loop-x-preserved : goal.loop-x-preserved
 loop-x-preserved c =

@@ -9,11 +9,12 @@ use Rattle.ss_terms.specs.Forms.{Forms, term_at}
 use Rattle.ss_terms.proofs.Grown.{IsGrown-then, HasTerm-grown}
 use Rattle.ss_vcgen_heaps.specs.Positions.{Position}
 use Rattle.ss_vcgen_heaps.specs.Obligations as spec
-use Rattle.ss_vcgen_builder.specs.Builder.{local_at, locals_at, position_at, walk_at, HasLocal}
+use Rattle.ss_vcgen_builder.specs.Builder.{local_at, locals_at, position_at, walk_at}
+use Rattle.ss_terms.specs.Numbered.{HasTermOf}
 use Rattle.ss_vcgen_builder.proofs.Held.{HasLocals-grown}
 use Rattle.ss_vcgen_statements.proofs.Steps.{formulas_are}
 use Rattle.ss_vcgen_bodies.specs.Words.{flat, kept_type}
-use Rattle.ss_vcgen_bodies.proofs.Keeping.{local_found, HasLocal-found, kept_next}
+use Rattle.ss_vcgen_bodies.proofs.Keeping.{local_found, HasTermOf-found, kept_next}
 use Rattle.ss_vcgen_bodies.proofs.Making.{no_formula_made, formulas_on, formulas_made}
 use Rattle.ss_vcgen_bodies.proofs.types.kept_types.Goals as goal
 
@@ -26,13 +27,13 @@ kept_type-requires-clause-store c = HasTerm-grown c.args.builder.now.bank c.loop
 pub kept_type-requires-clause-before : goal.kept_type-requires-clause-before
 kept_type-requires-clause-before c =
     let t = c.loop-x.builder in
-    rw c.local_in-old.ensures (HasLocal-found t.bank c.args.before.now c.loop-x.x (HasLocals-grown c.args.builder.now.bank t.bank c.loop-x.invariant.stays.grown c.args.before.now c.requires.before))
+    rw c.local_in-old.ensures (HasTermOf-found t.bank c.args.before.now c.loop-x.x (HasLocals-grown c.args.builder.now.bank t.bank c.loop-x.invariant.stays.grown c.args.before.now c.requires.before))
 
 pub kept_type-requires-clause-now : goal.kept_type-requires-clause-now
 kept_type-requires-clause-now c =
     let t = c.loop-x.builder in
-    subst (λ (o : Option TermId). HasLocal t.bank o) (sym (c.local_in-new.ensures ∙ ap (λ (ls : List (Option TermId)). flat (slice_get ls c.loop-x.x)) c.deref.ensures.value))
-    (HasLocal-found t.bank t.locals.items c.loop-x.x c.loop-x.invariant.stays.fine.locals)
+    subst (λ (o : Option TermId). HasTermOf t.bank o) (sym (c.local_in-new.ensures ∙ ap (λ (ls : List (Option TermId)). flat (slice_get ls c.loop-x.x)) c.deref.ensures.value))
+    (HasTermOf-found t.bank t.locals.items c.loop-x.x c.loop-x.invariant.stays.fine.locals)
 
 pub loop-x-preserved : goal.loop-x-preserved
 loop-x-preserved c =

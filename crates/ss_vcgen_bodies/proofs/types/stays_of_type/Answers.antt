@@ -1,11 +1,12 @@
 use Rattle.std.proofs.Common.{Bool, ◌++◌, ap, ◌∙◌}
 use Rattle.ss_core.specs.declared.names.Ty.{Ty}
+use Rattle.ss_core.specs.Types.{nullable}
 use Rattle.ss_terms.specs.Forms.{Forms, term_at}
 use Rattle.ss_terms.proofs.Grown.{HasTerm-grown}
 use Rattle.ss_vcgen_heaps.specs.Contracts.{is_of_type}
 use Rattle.ss_vcgen_heaps.specs.Obligations as spec
 use Rattle.ss_vcgen_statements.proofs.Steps.{stays_then, formulas_later, formulas_are}
-use Rattle.ss_vcgen_bodies.specs.Words.{nullable, not_lost}
+use Rattle.ss_vcgen_bodies.specs.Words.{not_lost}
 use Rattle.ss_vcgen_bodies.proofs.Keeping.{stays_is}
 use Rattle.ss_vcgen_bodies.proofs.Making.{formulas_joined}
 use Rattle.ss_vcgen_bodies.proofs.types.stays_of_type.Goals as goal

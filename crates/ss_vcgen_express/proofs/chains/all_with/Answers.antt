@@ -1,4 +1,4 @@
-use Rattle.ss_vcgen_express.proofs.Grown.{HasFormulas-push}
+use Rattle.ss_terms.proofs.Longer.{HasFormulas-push}
 use Rattle.ss_vcgen_express.proofs.chains.all_with.Goals as goal
 
 pub all-requires : goal.all-requires

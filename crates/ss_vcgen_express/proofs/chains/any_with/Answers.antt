@@ -1,4 +1,4 @@
-use Rattle.ss_vcgen_express.proofs.Grown.{HasFormulas-push}
+use Rattle.ss_terms.proofs.Longer.{HasFormulas-push}
 use Rattle.ss_vcgen_express.proofs.chains.any_with.Goals as goal
 
 pub any-requires : goal.any-requires

@@ -1,4 +1,5 @@
-use Rattle.ss_vcgen_express.proofs.Grown.{HasFormulas-push, HasFormulas-get, negated_next}
+use Rattle.ss_vcgen_express.proofs.Grown.{HasFormulas-get, negated_next}
+use Rattle.ss_terms.proofs.Longer.{HasFormulas-push}
 use Rattle.ss_vcgen_express.proofs.quantifiers.negations.Goals as goal
 
 pub negation-requires : goal.negation-requires

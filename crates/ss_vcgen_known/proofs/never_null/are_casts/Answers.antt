@@ -1,7 +1,7 @@
 use Rattle.std.proofs.Common.{sym, ap, ◌∙◌, take}
 use Rattle.std.specs.Prelude.{◌&&◌}
+use Rattle.ss_core.specs.Parts.{chain_front}
 use Rattle.ss_store_rules.specs.NonNull.{is_this_object}
-use Rattle.ss_vcgen_types.specs.Fronts.{chain_front}
 use Rattle.ss_vcgen_types.proofs.Grouping.{front_next, front_whole}
 use Rattle.ss_vcgen_types.proofs.Ending.{chain_ends, this_links}
 use Rattle.ss_vcgen_known.proofs.never_null.are_casts.Goals as goal

@@ -1,8 +1,8 @@
 use Rattle.std.proofs.Common.{◌≡◌, take}
 use Rattle.ss_core.specs.declared.names.Place.{Place}
 use Rattle.ss_core.specs.Tree.{ExprTree}
+use Rattle.ss_core.specs.Parts.{chain_front}
 use Rattle.ss_store_rules.specs.NonNull.{is_this_object}
-use Rattle.ss_vcgen_types.specs.Fronts.{chain_front}
 use Rattle.ss_vcgen_known.proofs.never_null.are_casts.Given as goal
 
 abbrev pub invariant-loop-link : goal.invariant-loop-link

@@ -1,7 +1,7 @@
 use Rattle.std.proofs.Common.{sym, ap, ◌∙◌, arith, take}
 use Rattle.ss_core.specs.View.{expr}
+use Rattle.ss_core.specs.Parts.{path_front}
 use Rattle.ss_store_rules.specs.NonNull.{is_this_object}
-use Rattle.ss_vcgen_types.specs.Fronts.{path_front}
 use Rattle.ss_vcgen_known.proofs.Stepping.{first_steps}
 use Rattle.ss_vcgen_known.proofs.never_null.front_is_this.Goals as goal
 

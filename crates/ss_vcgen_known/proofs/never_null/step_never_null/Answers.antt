@@ -1,7 +1,7 @@
 use Rattle.std.proofs.Common.{sym, ap, ◌∙◌}
 use Rattle.ss_core.specs.declared.expr.Step.{Step}
+use Rattle.ss_core.specs.Parts.{step_behind}
 use Rattle.ss_store_rules.specs.NonNull.{is_never_null}
-use Rattle.ss_vcgen_types.specs.Fronts.{step_behind}
 use Rattle.ss_vcgen_known.specs.Views.{type_context_of, known_of, tested}
 use Rattle.ss_vcgen_types.proofs.Grouping.{field_is}
 use Rattle.ss_vcgen_known.proofs.never_null.step_never_null.Goals as goal

@@ -1,7 +1,7 @@
 use Rattle.std.proofs.Common.{sym, ap, ◌∙◌, take}
 use Rattle.ss_core.specs.View.{expr}
+use Rattle.ss_core.specs.Parts.{path_front}
 use Rattle.ss_store_rules.specs.NonNull.{is_never_null}
-use Rattle.ss_vcgen_types.specs.Fronts.{path_front}
 use Rattle.ss_vcgen_known.specs.Views.{type_context_of, known_of, tested}
 use Rattle.ss_vcgen_known.proofs.Stepping.{last_step}
 use Rattle.ss_vcgen_known.proofs.never_null.steps_never_null.Goals as goal

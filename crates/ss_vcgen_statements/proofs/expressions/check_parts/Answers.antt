@@ -4,10 +4,10 @@ use Rattle.ss_vcgen_heaps.specs.Positions as positions
 use Rattle.ss_vcgen_express.specs.Marked.{checked_of}
 use Rattle.ss_vcgen_walk.specs.declared.parts.Part.{Part}
 use Rattle.ss_vcgen_walk.specs.Parts.{marked_at, parts_at}
-use Rattle.ss_vcgen_walk.proofs.Growing.{HasParts-grown}
+use Rattle.ss_vcgen_walk.proofs.Growing.{HasParts-grown, HasParts-get, no_part}
 use Rattle.ss_vcgen_builder.specs.Builder.{position_at, walk_at}
 use Rattle.ss_vcgen_builder.proofs.Builds.{going_start, going_on, going_end}
-use Rattle.ss_vcgen_statements.proofs.Evaluated.{HasParts-get, no_part, check_parts_step}
+use Rattle.ss_vcgen_statements.proofs.Evaluated.{check_parts_step}
 use Rattle.ss_vcgen_statements.proofs.expressions.check_parts.Goals as goal
 
 pub loop-part-init : goal.loop-part-init

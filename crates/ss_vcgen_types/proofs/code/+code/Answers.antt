@@ -1,9 +1,9 @@
 use Rattle.std.proofs.Common.{sym, ap, ◌∙◌, take}
 use Rattle.std.specs.Prelude.{◌&&◌}
 use Rattle.ss_core.specs.View as view
+use Rattle.ss_core.specs.Parts.{chain_front, path_front}
 use Rattle.ss_store_rules.specs.Locals.{everywhere}
 use Rattle.ss_store_rules.specs.Types.{is_allowed, in_code}
-use Rattle.ss_vcgen_types.specs.Fronts.{chain_front, path_front}
 use Rattle.ss_vcgen_types.proofs.Grouping.{front_next, front_whole, path_next, path_whole}
 use Rattle.ss_vcgen_types.proofs.Ending.{chain_ends, path_ends, code_links, code_steps, and_false, and_true}
 use Rattle.ss_vcgen_types.proofs.code.+code.Goals as goal

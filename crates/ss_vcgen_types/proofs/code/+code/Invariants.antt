@@ -2,9 +2,9 @@ use Rattle.std.proofs.Common.{◌≡◌, take}
 use Rattle.ss_core.specs.declared.names.Place.{Place}
 use Rattle.ss_core.specs.Tree.{ExprTree}
 use Rattle.ss_core.specs.View as view
+use Rattle.ss_core.specs.Parts.{chain_front, path_front}
 use Rattle.ss_store_rules.specs.Locals.{everywhere}
 use Rattle.ss_store_rules.specs.Types.{is_allowed, in_code}
-use Rattle.ss_vcgen_types.specs.Fronts.{chain_front, path_front}
 use Rattle.ss_vcgen_types.proofs.code.+code.Given as goal
 
 abbrev pub invariant-are_code-loop-link : goal.invariant-are_code-loop-link

@@ -1,7 +1,7 @@
 use Rattle.std.proofs.Common.{ap, sym, ◌∙◌}
 use Rattle.ss_core.specs.View.{classes}
+use Rattle.ss_core.specs.Parts.{chain_front, path_front}
 use Rattle.ss_store_rules.specs.Types.{type_of}
-use Rattle.ss_vcgen_types.specs.Fronts.{chain_front, path_front}
 use Rattle.ss_vcgen_types.specs.Names.{types_of_names}
 use Rattle.std.proofs.Common.{take}
 use Rattle.ss_vcgen_types.proofs.Grouping.{front_next, path_next}

@@ -2,8 +2,8 @@ use Rattle.std.proofs.Common.{◌≡◌, take}
 use Rattle.ss_core.specs.declared.names.Place.{Place}
 use Rattle.ss_core.specs.Tree.{ExprTree}
 use Rattle.ss_core.specs.View.{classes}
+use Rattle.ss_core.specs.Parts.{chain_front, path_front}
 use Rattle.ss_store_rules.specs.Types.{type_of}
-use Rattle.ss_vcgen_types.specs.Fronts.{chain_front, path_front}
 use Rattle.ss_vcgen_types.specs.Names.{types_of_names}
 use Rattle.ss_vcgen_types.proofs.expressions.+types.Given as goal
 

@@ -1,6 +1,6 @@
 use Rattle.std.proofs.Common.{[], ◌++◌, take, sym, ap, ◌∙◌}
 use Rattle.ss_core.specs.View.{expr}
-use Rattle.ss_vcgen_types.specs.Fronts.{link_behind, chain_front}
+use Rattle.ss_core.specs.Parts.{link_behind, chain_front}
 use Rattle.ss_vcgen_types.specs.Told.{local_of, told_by}
 use Rattle.ss_vcgen_types.proofs.Grouping.{path_is, path_some, front_next, front_whole}
 use Rattle.ss_vcgen_types.proofs.Telling.{step_tells, append_none, tell_next, no_local_behind}

@@ -1,8 +1,8 @@
 use Rattle.std.proofs.Common.{◌≡◌, List, ◌++◌, take, length}
 use Rattle.ss_core.specs.declared.names.Place.{Place}
 use Rattle.ss_core.specs.Tree.{ExprTree}
+use Rattle.ss_core.specs.Parts.{chain_front}
 use Rattle.ss_vcgen_types.specs.declared.told.Told.{Told}
-use Rattle.ss_vcgen_types.specs.Fronts.{chain_front}
 use Rattle.ss_vcgen_types.specs.Told.{local_of, told_by}
 use Rattle.ss_vcgen_types.proofs.told.+told.Given as goal
 

@@ -4,7 +4,7 @@ use Rattle.ss_logic.specs.Express as spec
 use Rattle.ss_terms.specs.Forms.{Forms, formula_at, formulas_at}
 use Rattle.ss_terms.proofs.Grown.{IsGrown-refl, HasFormulas-grown}
 use Rattle.ss_vcgen_express.specs.Numbers.{meant_at}
-use Rattle.ss_vcgen_express.proofs.Grown.{HasFormulas-push}
+use Rattle.ss_terms.proofs.Longer.{HasFormulas-push}
 use Rattle.ss_vcgen_walk.proofs.Holding.{formulas_in, HasFormulas-parts, with_last}
 use Rattle.ss_vcgen_walk.proofs.contracts.guards.Goals as goal
 

@@ -9,13 +9,13 @@ use Rattle.ss_core.specs.declared.expr.Expr.{the_lemmas}
 use Rattle.ss_core.specs.Tree.{IntExpr, BoolExpr, NullExpr, LocalExpr, DefaultExpr, NegateExpr, NotExpr, ImpliesExpr, IffExpr, CastExpr, OldExpr, QuantifiedExpr, StateExpr, OwnersExpr, BinaryExpr, IsExpr, AsExpr, FieldExpr, ElementExpr, LengthExpr}
 use Rattle.ss_core.specs.View.{expr, classes, default_tree, owners_tree, word_tree}
 use Rattle.ss_core.specs.Tree.{ExprTree}
+use Rattle.ss_core.specs.Parts.{chain_front, path_front, link_behind, step_behind}
 use Rattle.ss_store_rules.specs.NonNull.{Known}
 use Rattle.ss_store_rules.specs.Types.{type_of, is_bool, element_of}
 use Rattle.ss_logic.specs.Express as spec
 use Rattle.ss_terms.specs.declared.forms.FormulaId.{FormulaId}
 use Rattle.ss_terms.specs.Forms.{Forms}
 use Rattle.ss_terms.proofs.Grown.{IsGrown-then, HasFormulas-grown}
-use Rattle.ss_vcgen_types.specs.Fronts.{chain_front, path_front, link_behind, step_behind}
 use Rattle.ss_vcgen_known.specs.TellsFront.{TellsFront}
 use Rattle.ss_vcgen_known.specs.Views.{known_of}
 use Rattle.ss_vcgen_types.proofs.Grouping.{operation_is, is_is, as_is, field_is, element_is, length_is, front_next, path_next, front_whole, path_whole}

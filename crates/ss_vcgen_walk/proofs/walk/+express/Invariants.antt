@@ -1,8 +1,8 @@
 use Rattle.std.proofs.Common.{◌≡◌, List, take}
 use Rattle.ss_core.specs.View.{expr, classes}
+use Rattle.ss_core.specs.Parts.{chain_front, path_front}
 use Rattle.ss_store_rules.specs.Types.{type_of}
 use Rattle.ss_terms.specs.Forms.{IsGrown}
-use Rattle.ss_vcgen_types.specs.Fronts.{chain_front, path_front}
 use Rattle.ss_vcgen_known.specs.TellsFront.{TellsFront}
 use Rattle.ss_vcgen_walk.specs.declared.parts.Part.{Part}
 use Rattle.ss_vcgen_walk.specs.NullContexts.{Reads}

@@ -6,7 +6,7 @@ use Rattle.ss_logic.specs.Formulas.{And, Or, formulas_from}
 use Rattle.ss_terms.specs.Forms.{formulas_at}
 use Rattle.ss_terms.proofs.Tested.{AreBelow-get}
 use Rattle.ss_search_procedure_rules.specs.Closed.{is_basic, basics, AllMayHold, SomeMayHold}
-use Rattle.ss_search_procedure_rules.proofs.Lists.{contains_none}
+use Rattle.ss_logic.proofs.Lists.{contains_none}
 use Rattle.ss_search_reached.specs.Looks.{known_at, IsLooking, IsHolding}
 use Rattle.ss_search_reached.proofs.Lists.{one_more, all_of_them}
 use Rattle.ss_search_reached.proofs.Holding.{all_hold, and_holds, or_holds, found_holds, noted_holding}

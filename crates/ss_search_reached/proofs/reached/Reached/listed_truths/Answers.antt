@@ -4,7 +4,7 @@ use Rattle.ss_bit_set.specs.Marked.{marked}
 use Rattle.ss_terms.specs.declared.forms.FormulaId.{FormulaId}
 use Rattle.ss_terms.specs.Forms.{formula_at}
 use Rattle.ss_terms.proofs.Tested.{AreBelow-get}
-use Rattle.ss_search_procedure_rules.proofs.Lists.{contains_none}
+use Rattle.ss_logic.proofs.Lists.{contains_none}
 use Rattle.ss_search_reached.specs.Models.{HasArguments}
 use Rattle.ss_search_reached.proofs.Lists.{one_more, all_of_them}
 use Rattle.ss_search_reached.proofs.reached.Reached.listed_truths.Goals as goal

@@ -10,7 +10,7 @@ use Rattle.ss_deriv.specs.declared.line.Line.{Line}
 use Rattle.ss_equality_rules.specs.declared.Merge.{Merge}
 use Rattle.ss_equality_rules.specs.Equal.{Equations}
 use Rattle.ss_search_procedure_rules.specs.Closed.{is_basic, basics, AllMayHold, SomeMayHold}
-use Rattle.ss_search_procedure_rules.proofs.Lists.{contains_none}
+use Rattle.ss_logic.proofs.Lists.{contains_none}
 use Rattle.ss_search_reached.proofs.Lists.{one_more, all_of_them}
 use Rattle.ss_search_reached.proofs.Fronts.{front_itself}
 use Rattle.ss_search_reached.proofs.Holding.{all_hold, some_holds, and_holds, or_holds}

@@ -7,7 +7,7 @@ use Rattle.ss_terms.specs.declared.forms.FormulaId.{FormulaId}
 use Rattle.ss_terms.specs.Forms.{formula_at, formulas_at, HasFormula, HasFormulas}
 use Rattle.ss_terms.proofs.Tested.{AreBelow-get}
 use Rattle.ss_logic.specs.Includes.{Includes}
-use Rattle.ss_search_procedure_rules.proofs.Lists.{map_to}
+use Rattle.ss_logic.proofs.Lists.{map_to}
 use Rattle.ss_search_reached.specs.Following.{Occur, IsSpread}
 use Rattle.ss_search_reached.proofs.Lists.{contains_get, below_parts}
 use Rattle.ss_search_reached.proofs.Names.{ok_then}

@@ -5,7 +5,7 @@ use Rattle.ss_terms.specs.declared.forms.FormulaId.{FormulaId}
 use Rattle.ss_terms.specs.Forms.{formula_at}
 use Rattle.ss_terms.proofs.Tested.{AreBelow-get}
 use Rattle.ss_search_path.proofs.Going.{goes_nowhere}
-use Rattle.ss_search_procedure_rules.proofs.Lists.{map_to}
+use Rattle.ss_logic.proofs.Lists.{map_to}
 use Rattle.ss_logic_countermodels.specs.Refuting.{told_in}
 use Rattle.ss_search_reached.proofs.Lists.{contains_get, single}
 use Rattle.ss_search_reached.proofs.Names.{ok_then}

@@ -33,7 +33,7 @@ loop-i-preserved c =
     let seconds = c.args.seconds.now in
     let here = joining_next g h s₀ types firsts seconds s c.loop-i.joined.items c.min-count.result i (c.min-count.ensures ∙ ap (min (length types)) c.min-pairs.ensures) c.loop-i-test.true c.loop-i.invariant in
     joining_on g h s₀ types firsts seconds s c.join_local.new.self c.loop-i.joined.items c.push.new.self.items c.in_ok-local.local (get_or types i ty.Int) (drop (i + 1) types) (get_or firsts i None) (get_or seconds i None) (drop (i + 1) firsts)
-    (drop (i + 1) seconds) here c.sort_of.result c.sort_of.ensures c.in_ok-local.ensures.becomes c.in_ok-local.ensures.at c.in_ok-push.ensures.items
+    (drop (i + 1) seconds) here c.sort_of_type.result c.sort_of_type.ensures c.in_ok-local.ensures.becomes c.in_ok-local.ensures.at c.in_ok-push.ensures.items
 
 pub returns-clause-at : goal.returns-clause-at
 returns-clause-at c =

@@ -3,7 +3,8 @@ use Rattle.std.specs.Prelude.{IfSome, slice_get, option_map}
 use Rattle.std.proofs.lemmas.Option.{slice_get-map}
 use Rattle.ss_terms.specs.declared.forms.TermId.{TermId}
 use Rattle.ss_vcgen_heaps.specs.Positions as spec
-use Rattle.ss_vcgen_builder.specs.Builder.{local_at, position_at, HasLocal}
+use Rattle.ss_vcgen_builder.specs.Builder.{local_at, position_at}
+use Rattle.ss_terms.specs.Numbered.{HasTermOf}
 use Rattle.ss_vcgen_builder.proofs.Held.{HasLocals-found}
 use Rattle.ss_vcgen_builder.proofs.Builds.{becomes_bank, if_ok, term_so}
 use Rattle.ss_vcgen_builder.proofs.builder.Builder.local_term.Goals as goal
@@ -12,7 +13,7 @@ pub or_null-requires : goal.or_null-requires
 or_null-requires c =
     let s = c.args.self.now in
     let e = c.found-found.ensures ∙ ap (λ (ls : List (Option TermId)). slice_get ls c.args.x) c.deref.ensures.value in
-    subst (λ (o : Option (Option TermId)). IfSome o (λ l. HasLocal s.bank l)) (sym e) (HasLocals-found s.bank s.locals.items c.args.x c.requires.locals)
+    subst (λ (o : Option (Option TermId)). IfSome o (λ l. HasTermOf s.bank l)) (sym e) (HasLocals-found s.bank s.locals.items c.args.x c.requires.locals)
 
 pub returns-clause-at : goal.returns-clause-at
 returns-clause-at c =

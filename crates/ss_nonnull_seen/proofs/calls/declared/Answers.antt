@@ -2,7 +2,7 @@ use Rattle.std.proofs.Common.{ap, sym, ◌∙◌}
 use Rattle.std.specs.Prelude.{slice_get, option_and_then}
 use Rattle.ss_core.specs.View.{classes}
 use Rattle.ss_core.proofs.ByNumber.{declared_by_place}
-use Rattle.ss_nonnull_seen.proofs.called.declared.Goals as goal
+use Rattle.ss_nonnull_seen.proofs.calls.declared.Goals as goal
 
 pub returns-in-Some : goal.returns-in-Some
 returns-in-Some c =

@@ -2,10 +2,10 @@ use Rattle.std.proofs.Common.{ap, sym, ◌∙◌, map}
 use Rattle.std.specs.Prelude.{slice_get, option_map}
 use Rattle.ss_typed.specs.Tree.{ParamTree}
 use Rattle.ss_typed.specs.View.{param}
-use Rattle.ss_nonnull_seen.specs.declared.called.Called.{Called}
+use Rattle.ss_nonnull_seen.specs.declared.calls.Called.{Called}
 use Rattle.ss_nonnull_seen.specs.Called.{called_types}
 use Rattle.std.proofs.lemmas.Option.{slice_get-map}
-use Rattle.ss_nonnull_seen.proofs.called.type_at.Goals as goal
+use Rattle.ss_nonnull_seen.proofs.calls.type_at.Goals as goal
 
 pub returns-in-Method : goal.returns-in-Method
 returns-in-Method c =

@@ -1,11 +1,17 @@
--- The fronts of chains and of paths: a first operand with some links, or a beginning with some steps.
+-- What the parts of a chain and of a path make of what stands before them, and the statement that a loop is.
 use Rattle.std.specs.Prelude.{List, map}
 use Rattle.ss_core.specs.declared.names.Place.{Place}
 use Rattle.ss_core.specs.declared.expr.Link.{Link}
 use Rattle.ss_core.specs.declared.expr.Step.{Step}
 use Rattle.ss_core.specs.declared.expr.Expr.TheFolds.{fold-Link, fold-Step}
-use Rattle.ss_core.specs.Tree.{ExprTree}
-use Rattle.ss_core.specs.View.{Behind, grouped, expr_step, link_step, step_step}
+use Rattle.ss_core.specs.declared.stmt.Loop.{Loop}
+use Rattle.ss_core.specs.declared.stmt.Stmt.TheFolds.{fold-Loop}
+use Rattle.ss_core.specs.Tree.{ExprTree, StmtTree}
+use Rattle.ss_core.specs.View.{Behind, grouped, expr_step, link_step, step_step, stmt_step, loop_step}
+
+-- of what isn't written
+abbrev pub no_place : Place
+no_place = record { line = 0; column = 0 }
 
 abbrev pub link_behind : Link → Behind
 link_behind = fold-Link ExprTree Behind Behind expr_step link_step step_step
@@ -20,3 +26,6 @@ chain_front p e links = grouped p e (map link_behind links)
 -- the beginning with these steps behind it
 abbrev pub path_front : Place → ExprTree → List Step → ExprTree
 path_front p e steps = grouped p e (map step_behind steps)
+
+abbrev pub loop_of : Loop → StmtTree
+loop_of = fold-Loop StmtTree StmtTree stmt_step loop_step
