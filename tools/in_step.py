@@ -61,7 +61,7 @@ class Walks:
 
     def __init__(self, world):
         self.world, self.found = world, world.get(OBLIGATIONS, 'obligations')
-        for module, names in ((OBLIGATIONS, ('at_entry', 'behind', 'check_head', 'at_head', 'into_body', 'returned')), (POSITIONS, ('define', 'first_side', 'join_term', 'join_guard'))):
+        for module, names in ((OBLIGATIONS, ('at_entry', 'after', 'check_head', 'at_head', 'into_body', 'returned')), (POSITIONS, ('define', 'first_side', 'join_term', 'join_guard'))):
             for name in names:
                 self.listen(module, name, getattr(self, name))
 

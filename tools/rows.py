@@ -23,7 +23,7 @@ HEADER = """# Made by tools/rows.py of %s. Lines, by their first bytes:
 #   $       the words of the command line; FILE stands for the name of a file that holds the source
 #   |       a line of the source and its line end
 #   >       a line of output and its line end
-#   =       what is expected: the number of the status, and behind it its status line where it has one
+#   =       what is expected: the number of the status, and after it its status line where it has one
 #   # later:  a line of a case that is switched off
 """
 

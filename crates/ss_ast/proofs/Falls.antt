@@ -1,4 +1,4 @@
--- What stands behind the beginning of a chain or a path is smaller than the whole.
+-- What stands after the beginning of a chain or a path is smaller than the whole.
 use Rattle.std.proofs.Common.{◌≡◌, ◌<◌, List, Vec, Box, Global, rules, arith}
 use Rattle.std.proofs.lemmas.Grind.{common_steps}
 use Rattle.ss_core.specs.declared.names.Place.{Place}

@@ -23,7 +23,7 @@ pub data TypeNameTree : Type 0 where
   ObjectType : TypeNameTree
   ClassType : List ℕ → TypeNameTree
 
--- a type as it is written: its name, and whether `[]` and `!` stand behind it
+-- a type as it is written: its name, and whether `[]` and `!` stand after it
 pub record TypeTree : Type 0 where
   pub place : Place
   pub name : TypeNameTree
@@ -80,7 +80,7 @@ type_name_tree (named.Class n) = ClassType (string_bytes n)
 abbrev pub type_tree : TypeRef → TypeTree
 type_tree t = record { place = t.place; name = type_name_tree t.name; is_array = t.is_array; non_null = t.non_null }
 
--- what stands behind an operand or the beginning of a path makes a larger tree of what stands before it
+-- what stands after an operand or the beginning of a path makes a larger tree of what stands before it
 abbrev pub Behind : Type 0
 Behind = Place → ExprTree → ExprTree
 

@@ -4,8 +4,8 @@ use Rattle.ss_ast.specs.declared.expr.Postfix.{Postfix}
 use Rattle.ss_ast.specs.declared.expr.Expr.TheFolds.{fold-Link, fold-Postfix}
 use Rattle.ss_ast.specs.Expressions.{ExprTree, Behind, expr_step, link_step, postfix_step}
 
-abbrev pub link_behind : Link → Behind
-link_behind = fold-Link ExprTree Behind Behind expr_step link_step postfix_step
+abbrev pub link_after : Link → Behind
+link_after = fold-Link ExprTree Behind Behind expr_step link_step postfix_step
 
-abbrev pub postfix_behind : Postfix → Behind
-postfix_behind = fold-Postfix ExprTree Behind Behind expr_step link_step postfix_step
+abbrev pub postfix_after : Postfix → Behind
+postfix_after = fold-Postfix ExprTree Behind Behind expr_step link_step postfix_step

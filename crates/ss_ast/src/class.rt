@@ -55,7 +55,7 @@ pub struct Method {
     pub body: Block,
 }
 
-/// `: base(a, b)` behind the parameters of a constructor, with the place of `base`.
+/// `: base(a, b)` after the parameters of a constructor, with the place of `base`.
 #[derive(Drop)]
 pub struct BaseCall {
     pub place: Place,

@@ -23,7 +23,7 @@ pub enum TypeName {
 pub struct TypeRef {
     pub place: Place,
     pub name: TypeName,
-    /// `[]` is written behind the name.
+    /// `[]` is written after the name.
     pub is_array: bool,
     /// `!` is written at the end.
     pub non_null: bool,
@@ -68,7 +68,7 @@ pub enum Expr {
     Quantified(Place, Quantifier, Name, Box<Expr>, Box<Expr>, Box<Expr>),
 }
 
-/// What stands behind an operand in a chain.
+/// What stands after an operand in a chain.
 #[cycle(expr)]
 #[derive(Drop)]
 pub enum Link {
@@ -77,7 +77,7 @@ pub enum Link {
     As(TypeRef),
 }
 
-/// What stands behind the beginning of a path.
+/// What stands after the beginning of a path.
 #[cycle(expr)]
 #[derive(Drop)]
 pub enum Postfix {

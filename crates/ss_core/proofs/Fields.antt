@@ -15,10 +15,10 @@ get_front [] ys i x h = let no : ⊥ = cc in absurd no
 get_front (y ∷ xs) ys zero x h = h
 get_front (y ∷ xs) ys (suc i) x h = get_front xs ys i x h
 
-get_behind : {X : Type 0} (xs ys : List X) (i : ℕ) → length xs ≤ i → slice_get (xs ++ ys) i ≡ slice_get ys (i - length xs)
-get_behind [] ys i l = let e : i - 0 ≡ i = omega arith in rw e refl
-get_behind (x ∷ xs) ys zero l = absurd (omega arith)
-get_behind (x ∷ xs) ys (suc i) l = let e : suc i - suc (length xs) ≡ i - length xs = omega arith in rw e (get_behind xs ys i (omega arith))
+get_after : {X : Type 0} (xs ys : List X) (i : ℕ) → length xs ≤ i → slice_get (xs ++ ys) i ≡ slice_get ys (i - length xs)
+get_after [] ys i l = let e : i - 0 ≡ i = omega arith in rw e refl
+get_after (x ∷ xs) ys zero l = absurd (omega arith)
+get_after (x ∷ xs) ys (suc i) l = let e : suc i - suc (length xs) ≡ i - length xs = omega arith in rw e (get_after xs ys i (omega arith))
 
 -- a field of the first class
 pub first_class : (t : ℕ) (c : ClassTree) (cs : List ClassTree) (i : ℕ) (f : FieldTree) → slice_get c.fields i ≡ Some f → slice_get (fields_from t (c ∷ cs)) i ≡ Some (in_class t f)
@@ -28,7 +28,7 @@ first_class t c cs i f h = get_front (map (in_class t) c.fields) (fields_from (t
 pub later_class : (t : ℕ) (c : ClassTree) (cs : List ClassTree) (i : ℕ) → length c.fields ≤ i → slice_get (fields_from t (c ∷ cs)) i ≡ slice_get (fields_from (t + 2) cs) (i - length c.fields)
 later_class t c cs i l =
     let same = length-map c.fields (in_class t) in
-    rw (← same) (get_behind (map (in_class t) c.fields) (fields_from (t + 2) cs) i (rw same l))
+    rw (← same) (get_after (map (in_class t) c.fields) (fields_from (t + 2) cs) i (rw same l))
 
 field_from : (t : ℕ) (cs : List ClassTree) (i : ℕ) (d : DeclaredField) → slice_get (fields_from t cs) i ≡ Some d → (k : ℕ) × (c : ClassTree) × (place : ℕ) × (slice_get cs k ≡ Some c) × (d.class ≡ t + 2 * k) × (slice_get c.fields place ≡ Some d.field)
 field_from t [] i d h = let no : ⊥ = cc in absurd no

@@ -13,19 +13,19 @@ use Rattle.ss_core.specs.View.{Behind, grouped, expr_step, link_step, step_step,
 abbrev pub no_place : Place
 no_place = record { line = 0; column = 0 }
 
-abbrev pub link_behind : Link → Behind
-link_behind = fold-Link ExprTree Behind Behind expr_step link_step step_step
+abbrev pub link_after : Link → Behind
+link_after = fold-Link ExprTree Behind Behind expr_step link_step step_step
 
-abbrev pub step_behind : Step → Behind
-step_behind = fold-Step ExprTree Behind Behind expr_step link_step step_step
+abbrev pub step_after : Step → Behind
+step_after = fold-Step ExprTree Behind Behind expr_step link_step step_step
 
--- the operand with these links behind it
+-- the operand with these links after it
 abbrev pub chain_front : Place → ExprTree → List Link → ExprTree
-chain_front p e links = grouped p e (map link_behind links)
+chain_front p e links = grouped p e (map link_after links)
 
--- the beginning with these steps behind it
+-- the beginning with these steps after it
 abbrev pub path_front : Place → ExprTree → List Step → ExprTree
-path_front p e steps = grouped p e (map step_behind steps)
+path_front p e steps = grouped p e (map step_after steps)
 
 abbrev pub loop_of : Loop → StmtTree
 loop_of = fold-Loop StmtTree StmtTree stmt_step loop_step

@@ -52,7 +52,7 @@ default_tree (default.ConsistentArgument x) = ConsistentArgument x
 default_tree (default.FullArgument x) = FullArgument x
 default_tree (default.Captured x b) = Captured x b
 
--- what stands behind an operand or the beginning of a path makes a larger tree of what stands before it
+-- what stands after an operand or the beginning of a path makes a larger tree of what stands before it
 abbrev pub Behind : Type 0
 Behind = Place → ExprTree → ExprTree
 

@@ -18,7 +18,7 @@ pub struct Entry {
     pub body: BodyId,
 }
 
-/// A declared class. Its table has first the names of the table of the class above, in that order. Behind them stand the other
+/// A declared class. Its table has first the names of the table of the class above, in that order. After them stand the other
 /// methods that it declares, static ones included, in order of declaration.
 #[derive(Drop)]
 pub struct Class {

@@ -110,7 +110,7 @@ pub enum Expr {
     Default(Place, DefaultCondition),
 }
 
-/// What stands behind an operand in a chain.
+/// What stands after an operand in a chain.
 #[cycle(expr)]
 #[derive(Drop)]
 pub enum Link {
@@ -119,7 +119,7 @@ pub enum Link {
     As(ClassId),
 }
 
-/// What stands behind the beginning of a path.
+/// What stands after the beginning of a path.
 #[cycle(expr)]
 #[derive(Drop)]
 pub enum Step {

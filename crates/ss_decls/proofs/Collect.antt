@@ -12,14 +12,14 @@ use Rattle.ss_grammar_expressions.specs.Heads.{Piece, pieces}
 use Rattle.ss_grammar_expressions.specs.Parser.{Gets}
 use Rattle.ss_parser_expressions.proofs.Loops.{pieces_less}
 use Rattle.ss_grammar_programs.specs.Again.{another}
-use Rattle.ss_grammar_programs.specs.Grammar.{push, push_behind}
+use Rattle.ss_grammar_programs.specs.Grammar.{push, push_after}
 use Rattle.ss_grammar_programs.proofs.Rounds.{Rounds, rounds_on, rounds_err}
 
--- one more behind a token that f knows
-pub pushed : {X A B : Type 0} (f : Piece → Option B) (k : B → Gets A) (v : X → A) (xs ys : List X) (x : X) (rest after : List Token) (total : Result (List A × List Piece) (Fault × List Piece)) → one_more f k (pieces rest) ≡ Some (Ok (v x, pieces after)) → length after < length rest → ys ≡ xs ++ x ∷ [] → Turns f k push_behind (map v xs) (pieces rest) total → Turns f k push_behind (map v ys) (pieces after) total
+-- one more after a token that f knows
+pub pushed : {X A B : Type 0} (f : Piece → Option B) (k : B → Gets A) (v : X → A) (xs ys : List X) (x : X) (rest after : List Token) (total : Result (List A × List Piece) (Fault × List Piece)) → one_more f k (pieces rest) ≡ Some (Ok (v x, pieces after)) → length after < length rest → ys ≡ xs ++ x ∷ [] → Turns f k push_after (map v xs) (pieces rest) total → Turns f k push_after (map v ys) (pieces after) total
 pushed {X} {A} {B} f k v xs ys x rest after total g lt e h =
-    let t = more_on f k push_behind push (λ a b r. refl) (map v xs) (pieces rest) (v x) (pieces after) total g (pieces_less after rest lt) h in
-    subst (λ (a : List A). Turns f k push_behind a (pieces after) total) (sym (ap (λ l. map v l) e ∙ map_push v xs x)) t
+    let t = more_on f k push_after push (λ a b r. refl) (map v xs) (pieces rest) (v x) (pieces after) total g (pieces_less after rest lt) h in
+    subst (λ (a : List A). Turns f k push_after a (pieces after) total) (sym (ap (λ l. map v l) e ∙ map_push v xs x)) t
 
 -- one more where g knows the next token
 pub pushed_again : {X A : Type 0} (g : Piece → Bool) (p : Gets A) (v : X → A) (xs ys : List X) (x : X) (rest after : List Token) (total : Result (List A × List Piece) (Fault × List Piece)) → another g p (pieces rest) ≡ Some (Ok (v x, pieces after)) → length after < length rest → ys ≡ xs ++ x ∷ [] → Rounds (λ (_ : List A). g) p push (map v xs) (pieces rest) total → Rounds (λ (_ : List A). g) p push (map v ys) (pieces after) total

@@ -11,14 +11,14 @@ use Rattle.ss_grammar_expressions.specs.Heads.{Piece, is, the, the_word}
 use Rattle.ss_grammar_expressions.specs.Parser.{give}
 use Rattle.ss_grammar_programs.specs.Again.{again}
 use Rattle.ss_grammar_programs.specs.Heads.{an_access, member_word, begins_class, begins_member, clause_head}
-use Rattle.ss_grammar_programs.specs.Grammar.{push, push_behind, dropped, modified, join_word}
-use Rattle.ss_grammar_programs.specs.Parser.{attribute, attributes, steps, modified_from, clause_behind, clauses, words, member, members, accesses, class_decl, classes, skipped_name, dotted, using_end, usings}
+use Rattle.ss_grammar_programs.specs.Grammar.{push, push_after, dropped, modified, join_word}
+use Rattle.ss_grammar_programs.specs.Parser.{attribute, attributes, steps, modified_from, clause_after, clauses, words, member, members, accesses, class_decl, classes, skipped_name, dotted, using_end, usings}
 
-pub attributes_is : (d : ℕ) (ts : List Piece) → attributes d ts ≡ times (tokened (the symbol.OpenBracket)) (attribute d) push_behind (length ts) [] ts
+pub attributes_is : (d : ℕ) (ts : List Piece) → attributes d ts ≡ times (tokened (the symbol.OpenBracket)) (attribute d) push_after (length ts) [] ts
 unfolding attributes
 attributes_is d ts = refl
 
-pub clauses_is : (d : ℕ) (ts : List Piece) → clauses d ts ≡ times clause_head (clause_behind d) push_behind (length ts) [] ts
+pub clauses_is : (d : ℕ) (ts : List Piece) → clauses d ts ≡ times clause_head (clause_after d) push_after (length ts) [] ts
 unfolding clauses
 clauses_is d ts = refl
 

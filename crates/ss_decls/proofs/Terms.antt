@@ -8,7 +8,7 @@ use Rattle.ss_ast.specs.Expressions.{ExprTree, grouped}
 use Rattle.ss_ast.specs.Programs.{ModifiedTree, OneOf}
 use Rattle.ss_grammar.specs.Reading.{◌>>=◌, ahead}
 use Rattle.ss_grammar_expressions.specs.Heads.{Piece, is, pieces, postfix_head}
-use Rattle.ss_ast.specs.Parts.{postfix_behind}
+use Rattle.ss_ast.specs.Parts.{postfix_after}
 use Rattle.ss_ast.proofs.Grouping.{grouped_push}
 use Rattle.ss_parser_expressions.proofs.Loops.{pieces_less}
 use Rattle.ss_grammar_programs.specs.Again.{another}
@@ -27,9 +27,9 @@ module _ (p : Place) (d : ℕ) (a : ExprTree) (tokens : List Token) where
   pub stepped_on : (b : ExprTree) (rest after : List Token) (s : TermStep) → another (is postfix_head) (step d) (pieces rest) ≡ Some (Ok (step_of s, pieces after)) → length after < length rest → Stands (Path b) rest → Stands (step_of s p b) after
   stepped_on b rest after s e lt h = rounds_on path_goes (step d) (stepped p) (Path b) (pieces rest) (step_of s) (pieces after) (steps p d a (pieces tokens)) e (pieces_less after rest lt) h
 
-  pub one_postfix : (b : ExprTree) (xs ys : List Postfix) (x : Postfix) (after : List Token) → ys ≡ xs ++ x ∷ [] → Stands (step_of (term.Postfix x) p (grouped p b (map postfix_behind xs))) after → Stands (Path (grouped p b (map postfix_behind ys))) after
+  pub one_postfix : (b : ExprTree) (xs ys : List Postfix) (x : Postfix) (after : List Token) → ys ≡ xs ++ x ∷ [] → Stands (step_of (term.Postfix x) p (grouped p b (map postfix_after xs))) after → Stands (Path (grouped p b (map postfix_after ys))) after
   one_postfix b xs ys x after e h =
-      let q : grouped p b (map postfix_behind ys) ≡ postfix_behind x p (grouped p b (map postfix_behind xs)) = ap (λ l. grouped p b (map postfix_behind l)) e ∙ ap (λ l. grouped p b l) (map_push postfix_behind xs x) ∙ grouped_push p b (map postfix_behind xs) (postfix_behind x) in
+      let q : grouped p b (map postfix_after ys) ≡ postfix_after x p (grouped p b (map postfix_after xs)) = ap (λ l. grouped p b (map postfix_after l)) e ∙ ap (λ l. grouped p b l) (map_push postfix_after xs x) ∙ grouped_push p b (map postfix_after xs) (postfix_after x) in
       subst (λ (y : ExprTree). Stands (Path y) after) (sym q) h
 
   no_more : (m : ModifiedTree) (ts : List Piece) → ahead (path_goes (Whole m)) ts ≡ false

@@ -91,7 +91,7 @@ fn parse_above(tokens: &[Token]) -> Result<(Option<Name>, &[Token]), Stop>
     }
 }
 
-// What is behind `class`.
+// What is after `class`.
 #[tactic(auto, unfolding(ss_grammar_programs::specs::Parser::class_named))]
 fn parse_class_named(
     alloc: Global,
@@ -150,7 +150,7 @@ fn parse_classes(
     Ok((list, rest))
 }
 
-/// The `using` lines and the classes that stand here, and the tokens behind them.
+/// The `using` lines and the classes that stand here, and the tokens after them.
 #[tactic(auto, unfolding(ss_grammar_programs::specs::Parser::declarations))]
 pub fn parse_declarations(
     alloc: Global,

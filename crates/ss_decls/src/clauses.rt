@@ -1,4 +1,4 @@
-// Clauses, and the block behind them.
+// Clauses, and the block after them.
 
 ghost use Rattle.std.specs.Prelude.{◌<◌, ◌≤◌, length, map, IfOk, IfSome};
 ghost use Rattle.ss_ast.specs.Expressions.{expr_tree};
@@ -10,7 +10,7 @@ ghost use Rattle.ss_grammar_expressions.specs.Heads.{pieces};
 ghost use Rattle.ss_grammar_expressions.specs.Parser.{below, whole_expression};
 ghost use Rattle.ss_grammar_statements.specs.Parser.{ended};
 ghost use Rattle.ss_grammar_programs.specs.Heads.{clause_head};
-ghost use Rattle.ss_grammar_programs.specs.Parser.{modifies, clause_behind, clauses, specified};
+ghost use Rattle.ss_grammar_programs.specs.Parser.{modifies, clause_after, clauses, specified};
 
 use crate::modified::parse_modifies;
 use ss_ast::{Block, Clause, Expr, Modified, Symbol, Token, TokenKind, Word};
@@ -48,13 +48,13 @@ fn parse_modifies_end(
 }
 
 // A clause, where one begins.
-#[tactic(auto, unfolding(ss_grammar_programs::specs::Parser::clause_behind))]
+#[tactic(auto, unfolding(ss_grammar_programs::specs::Parser::clause_after))]
 fn next_clause(
     alloc: Global,
     depth: u32,
     tokens: &[Token],
 ) -> Result<Option<(Clause, &[Token])>, Stop>
-    ensures gives { GivesMore (λ x. (clause_tree x.0, pieces x.1.now)) result (one_more clause_head (clause_behind depth) (pieces tokens.now)) }
+    ensures gives { GivesMore (λ x. (clause_tree x.0, pieces x.1.now)) result (one_more clause_head (clause_after depth) (pieces tokens.now)) }
     ensures fewer { IfOk result (λ more. IfSome more (λ x. length x.1.now < length tokens.now)) }
 {
     match tokens {
@@ -101,7 +101,7 @@ fn parse_clauses(
     Ok((list, rest))
 }
 
-/// Clauses, and the block behind them.
+/// Clauses, and the block after them.
 #[tactic(auto, unfolding(ss_grammar_programs::specs::Parser::specified))]
 pub fn parse_specified(
     alloc: Global,

@@ -18,7 +18,7 @@ fn access_place(place: Place, word: Word) -> Option<Place>
     }
 }
 
-/// The place of an access word, where one is the next, and the tokens behind it.
+/// The place of an access word, where one is the next, and the tokens after it.
 pub fn next_access(tokens: &[Token]) -> Option<(Place, &[Token])>
     ensures sees { seen an_access (pieces tokens.now) ≡ option_map (λ x. (x.0, pieces x.1.now)) result }
     ensures fewer { IfSome result (λ x. length x.1.now < length tokens.now) }
@@ -59,7 +59,7 @@ fn modifier(place: Place, word: Word) -> Option<Option<Modifier>>
     }
 }
 
-/// A word before a member, where one is the next, and the tokens behind it. An access word says nothing.
+/// A word before a member, where one is the next, and the tokens after it. An access word says nothing.
 pub fn next_modifier(tokens: &[Token]) -> Option<(Option<Modifier>, &[Token])>
     ensures sees { seen member_word (pieces tokens.now) ≡ option_map (λ x. (x.0, pieces x.1.now)) result }
     ensures fewer { IfSome result (λ x. length x.1.now < length tokens.now) }
@@ -136,7 +136,7 @@ pub fn is_member(tokens: &[Token]) -> bool
     }
 }
 
-/// Behind a name, whether the name begins a type.
+/// After a name, whether the name begins a type.
 pub fn is_type_ahead(tokens: &[Token]) -> bool
     ensures { ahead type_follows (pieces tokens.now) ≡ result }
 {
@@ -150,7 +150,7 @@ pub fn is_type_ahead(tokens: &[Token]) -> bool
     }
 }
 
-/// Behind a type and a name, whether the name is that of a field.
+/// After a type and a name, whether the name is that of a field.
 pub fn is_field_ahead(tokens: &[Token]) -> bool
     ensures { ahead fields_follow (pieces tokens.now) ≡ result }
 {

@@ -9,7 +9,7 @@ ghost use Rattle.ss_parser_expression_trees.specs.View.{start_of};
 ghost use Rattle.ss_grammar_programs.specs.Again.{another};
 ghost use Rattle.ss_grammar_programs.specs.Heads.{begins_member};
 ghost use Rattle.ss_grammar_programs.specs.Grammar.{join_word};
-ghost use Rattle.ss_grammar_programs.specs.Parser.{fields, method, base_end, base_behind, base, constructor, fields_or_method, typed, void_method, name_first, member_kind, words, member, members};
+ghost use Rattle.ss_grammar_programs.specs.Parser.{fields, method, base_end, base_after, base, constructor, fields_or_method, typed, void_method, name_first, member_kind, words, member, members};
 
 use crate::clauses::{parse_condition, parse_specified};
 use crate::heads::{is_field_ahead, is_member, is_type_ahead, next_modifier};
@@ -26,7 +26,7 @@ use ss_parser_expressions::arguments::parse_args_end;
 use ss_parser_expressions::types::parse_type_end;
 use std::alloc::{AllocError, Global};
 
-// Fields, behind the type and the first name.
+// Fields, after the type and the first name.
 #[tactic(auto, unfolding(ss_grammar_programs::specs::Parser::fields, ss_grammar_statements::specs::Parser::ended))]
 fn parse_fields(
     alloc: Global,
@@ -43,7 +43,7 @@ fn parse_fields(
     Ok((MemberKind::Fields(Declaration { ty, declarators }), rest))
 }
 
-// A method, behind its name.
+// A method, after its name.
 #[tactic(auto, unfolding(ss_grammar_programs::specs::Parser::method))]
 fn parse_method(
     alloc: Global,
@@ -69,7 +69,7 @@ fn parse_method(
     ))
 }
 
-// The arguments of a call of `base`, which is at this place, behind their `(`.
+// The arguments of a call of `base`, which is at this place, after their `(`.
 #[tactic(auto, unfolding(ss_grammar_programs::specs::Parser::base_end))]
 fn parse_base_end(
     alloc: Global,
@@ -86,14 +86,14 @@ fn parse_base_end(
 }
 
 // The same with the `(`.
-#[tactic(auto, unfolding(ss_grammar_programs::specs::Parser::base_behind))]
-fn parse_base_behind(
+#[tactic(auto, unfolding(ss_grammar_programs::specs::Parser::base_after))]
+fn parse_base_after(
     alloc: Global,
     depth: u32,
     place: Place,
     tokens: &[Token],
 ) -> Result<(Option<BaseCall>, &[Token]), Stop>
-    ensures gives { Gives (λ x. (option_map base_call_tree x.0, pieces x.1.now)) result (base_behind depth place (pieces tokens.now)) }
+    ensures gives { Gives (λ x. (option_map base_call_tree x.0, pieces x.1.now)) result (base_after depth place (pieces tokens.now)) }
     ensures fewer { IfOk result (λ x. length x.1.now ≤ length tokens.now) }
 {
     match tokens {
@@ -132,13 +132,13 @@ fn parse_base(
             rest @ ..,
         ] => {
             let (place, rest) = expect_word(rest, Word::Base)?;
-            parse_base_behind(alloc, depth, place, rest)
+            parse_base_after(alloc, depth, place, rest)
         }
         _ => Ok((None, tokens)),
     }
 }
 
-// A constructor, behind its name.
+// A constructor, after its name.
 #[tactic(auto, unfolding(ss_grammar_programs::specs::Parser::constructor))]
 fn parse_constructor(
     alloc: Global,
@@ -164,7 +164,7 @@ fn parse_constructor(
     ))
 }
 
-// Fields or a method, behind a type and a name.
+// Fields or a method, after a type and a name.
 #[tactic(auto, unfolding(ss_grammar_programs::specs::Parser::fields_or_method))]
 fn parse_fields_or_method(
     alloc: Global,
@@ -183,7 +183,7 @@ fn parse_fields_or_method(
     }
 }
 
-// A member with a type, behind the type's first token.
+// A member with a type, after the type's first token.
 #[tactic(auto, unfolding(ss_grammar_programs::specs::Parser::typed))]
 fn parse_typed(
     alloc: Global,
@@ -199,7 +199,7 @@ fn parse_typed(
     parse_fields_or_method(alloc, depth, ty, name, rest)
 }
 
-// A method without a result, behind `void`.
+// A method without a result, after `void`.
 #[tactic(auto, unfolding(ss_grammar_programs::specs::Parser::void_method))]
 fn parse_void_method(
     alloc: Global,
@@ -235,8 +235,8 @@ fn parse_name_first(
     }
 }
 
-// What a member is, behind its attributes and words.
-#[tactic(auto, unfolding(ss_grammar_programs::specs::Parser::member_kind, ss_grammar_programs::specs::Parser::kind_behind))]
+// What a member is, after its attributes and words.
+#[tactic(auto, unfolding(ss_grammar_programs::specs::Parser::member_kind, ss_grammar_programs::specs::Parser::kind_after))]
 fn parse_kind(alloc: Global, depth: u32, tokens: &[Token]) -> Result<(MemberKind, &[Token]), Stop>
     ensures gives { Gives (λ x. (member_kind_tree x.0, pieces x.1.now)) result (member_kind depth (pieces tokens.now)) }
     ensures fewer { IfOk result (λ x. length x.1.now < length tokens.now) }

@@ -7,9 +7,9 @@ ghost use Rattle.ss_grammar.specs.Reading.{times, one_more};
 ghost use Rattle.ss_grammar.specs.Stops.{Gives, GivesMore};
 ghost use Rattle.ss_grammar_expressions.specs.Heads.{is, the, pieces, postfix_head};
 ghost use Rattle.ss_grammar_programs.specs.Again.{another};
-ghost use Rattle.ss_grammar_programs.specs.Grammar.{push_behind};
+ghost use Rattle.ss_grammar_programs.specs.Grammar.{push_after};
 ghost use Rattle.ss_grammar_programs.specs.Parser.{dot_step, index_step, call_step, step, modified_from, modified_term, modifies};
-ghost use Rattle.ss_ast.specs.Parts.{postfix_behind};
+ghost use Rattle.ss_ast.specs.Parts.{postfix_after};
 ghost use Rattle.ss_decls.specs.View.{step_of};
 
 use ss_ast::{Expr, Modified, Postfix, Symbol, Token, TokenKind};
@@ -21,7 +21,7 @@ use ss_parser_expression_trees::heads::{expect, expect_name};
 use ss_parser_expressions::arguments::{parse_args_end, parse_index_end};
 use std::alloc::{AllocError, Global};
 
-/// What stands behind a path in a term.
+/// What stands after a path in a term.
 #[derive(Drop)]
 pub enum TermStep {
     Postfix(Postfix),
@@ -31,7 +31,7 @@ pub enum TermStep {
     Elements,
 }
 
-// What is behind a `.`.
+// What is after a `.`.
 #[tactic(auto, unfolding(ss_grammar_programs::specs::Parser::dot_step, ss_grammar_programs::specs::Parser::all_step, ss_grammar_programs::specs::Parser::member_step))]
 fn parse_dot_step(tokens: &[Token]) -> Result<(TermStep, &[Token]), Stop>
     ensures gives { Gives (λ x. (step_of x.0, pieces x.1.now)) result (dot_step (pieces tokens.now)) }
@@ -52,7 +52,7 @@ fn parse_dot_step(tokens: &[Token]) -> Result<(TermStep, &[Token]), Stop>
     }
 }
 
-// What is behind a `[`.
+// What is after a `[`.
 #[tactic(auto, unfolding(ss_grammar_programs::specs::Parser::index_step, ss_grammar_programs::specs::Parser::elements_step, ss_grammar_programs::specs::Parser::element_step))]
 fn parse_index_step(
     alloc: Global,
@@ -81,7 +81,7 @@ fn parse_index_step(
     }
 }
 
-// What is behind a `(`.
+// What is after a `(`.
 #[tactic(auto, unfolding(ss_grammar_programs::specs::Parser::call_step))]
 fn parse_call_step(
     alloc: Global,
@@ -96,8 +96,8 @@ fn parse_call_step(
     Ok((TermStep::Postfix(build::call(given)), rest))
 }
 
-// What stands behind a path, where something does.
-#[tactic(auto, unfolding(ss_grammar_programs::specs::Parser::step, ss_grammar_programs::specs::Parser::step_behind))]
+// What stands after a path, where something does.
+#[tactic(auto, unfolding(ss_grammar_programs::specs::Parser::step, ss_grammar_programs::specs::Parser::step_after))]
 fn next_step(
     alloc: Global,
     depth: u32,
@@ -134,7 +134,7 @@ fn path_of(
     first: Box<Expr>,
     postfixes: Vec<Postfix>,
 ) -> Result<Expr, AllocError>
-    ensures { IfOk result (λ e. expr_tree e ≡ grouped place (expr_tree first.value) (map postfix_behind postfixes.items)) }
+    ensures { IfOk result (λ e. expr_tree e ≡ grouped place (expr_tree first.value) (map postfix_after postfixes.items)) }
 {
     let path = build::path(alloc, place, first, postfixes)?;
     Ok(Box::into_inner(path))
@@ -186,7 +186,7 @@ fn parse_modified(alloc: Global, depth: u32, tokens: &[Token]) -> Result<(Modifi
     }
 }
 
-// A further term behind a `,`, where one stands.
+// A further term after a `,`, where one stands.
 fn next_modified(
     alloc: Global,
     depth: u32,
@@ -213,7 +213,7 @@ fn parse_more_modified(
     first: Vec<Modified>,
     tokens: &[Token],
 ) -> Result<(Vec<Modified>, &[Token]), Stop>
-    ensures gives { Gives (λ x. (map modified_tree x.0.items, pieces x.1.now)) result (times (the Symbol.Comma) (λ _. modified_term depth) push_behind (length (pieces tokens.now)) (map modified_tree first.items) (pieces tokens.now)) }
+    ensures gives { Gives (λ x. (map modified_tree x.0.items, pieces x.1.now)) result (times (the Symbol.Comma) (λ _. modified_term depth) push_after (length (pieces tokens.now)) (map modified_tree first.items) (pieces tokens.now)) }
     ensures fewer { IfOk result (λ x. length x.1.now ≤ length tokens.now) }
 {
     let mut terms = first;

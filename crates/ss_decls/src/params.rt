@@ -7,7 +7,7 @@ ghost use Rattle.ss_grammar.specs.Reading.{times, one_more};
 ghost use Rattle.ss_grammar.specs.Stops.{Gives, GivesMore};
 ghost use Rattle.ss_grammar_expressions.specs.First.{tokened};
 ghost use Rattle.ss_grammar_expressions.specs.Heads.{the, pieces};
-ghost use Rattle.ss_grammar_programs.specs.Grammar.{push_behind};
+ghost use Rattle.ss_grammar_programs.specs.Grammar.{push_after};
 ghost use Rattle.ss_grammar_programs.specs.Parser.{attribute_end, attribute, attributes, parameter, params, some_params, params_end, parameters};
 
 use ss_ast::{Name, Param, Symbol, Token, TokenKind};
@@ -17,7 +17,7 @@ use ss_parser_expression_trees::heads::{expect, expect_name};
 use ss_parser_expressions::types::parse_type;
 use std::alloc::Global;
 
-// What is behind the `[` of an attribute, which stands at `place`.
+// What is after the `[` of an attribute, which stands at `place`.
 #[tactic(auto, unfolding(ss_grammar_programs::specs::Parser::attribute_end))]
 fn parse_attribute_end(place: Place, tokens: &[Token]) -> Result<(Name, &[Token]), Stop>
     ensures gives { Gives (λ x. (name_tree x.0, pieces x.1.now)) result (attribute_end place (pieces tokens.now)) }
@@ -91,7 +91,7 @@ fn parse_param(alloc: Global, depth: u32, tokens: &[Token]) -> Result<(Param, &[
     ))
 }
 
-// A further parameter behind a `,`, where one stands.
+// A further parameter after a `,`, where one stands.
 fn next_param(
     alloc: Global,
     depth: u32,
@@ -118,7 +118,7 @@ fn parse_more_params(
     first: Vec<Param>,
     tokens: &[Token],
 ) -> Result<(Vec<Param>, &[Token]), Stop>
-    ensures gives { Gives (λ x. (map param_tree x.0.items, pieces x.1.now)) result (times (the Symbol.Comma) (λ _. parameter depth) push_behind (length (pieces tokens.now)) (map param_tree first.items) (pieces tokens.now)) }
+    ensures gives { Gives (λ x. (map param_tree x.0.items, pieces x.1.now)) result (times (the Symbol.Comma) (λ _. parameter depth) push_after (length (pieces tokens.now)) (map param_tree first.items) (pieces tokens.now)) }
     ensures fewer { IfOk result (λ x. length x.1.now ≤ length tokens.now) }
 {
     let mut params = first;

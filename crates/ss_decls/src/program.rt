@@ -18,7 +18,7 @@ use ss_parser_expressions::LEVELS;
 use ss_parser_expressions::refusal::refused;
 use std::alloc::Global;
 
-// The place of the end of the text, where it is the next, and the tokens behind it.
+// The place of the end of the text, where it is the next, and the tokens after it.
 fn next_end(tokens: &[Token]) -> Option<(Place, &[Token])>
     ensures sees { seen the_end (pieces tokens.now) ≡ option_map (λ x. (x.0, pieces x.1.now)) result }
     ensures fewer { IfSome result (λ x. length x.1.now < length tokens.now) }

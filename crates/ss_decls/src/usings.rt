@@ -12,7 +12,7 @@ use ss_ast::{Symbol, Token, TokenKind, Word};
 use ss_grammar::fault::{Fault, Stop};
 use ss_parser_expression_trees::heads::expect;
 
-/// What is behind the access words that stand here.
+/// What is after the access words that stand here.
 #[tactic(auto, unfolding(ss_grammar_programs::specs::Parser::accesses))]
 pub fn skip_accesses(tokens: &[Token]) -> &[Token]
     ensures reads { accesses (pieces tokens.now) ≡ Ok (tt, pieces result.now) }
@@ -25,7 +25,7 @@ pub fn skip_accesses(tokens: &[Token]) -> &[Token]
     rest
 }
 
-// What is behind a name.
+// What is after a name.
 #[tactic(auto, unfolding(ss_grammar_programs::specs::Parser::skipped_name))]
 fn skip_name(tokens: &[Token]) -> Result<&[Token], Stop>
     ensures gives { GivesRest (λ x. pieces x.now) result (skipped_name (pieces tokens.now)) }
@@ -43,7 +43,7 @@ fn skip_name(tokens: &[Token]) -> Result<&[Token], Stop>
     }
 }
 
-// Behind a dot and a name, where a dot stands.
+// After a dot and a name, where a dot stands.
 fn skip_dot(tokens: &[Token]) -> Result<Option<&[Token]>, Stop>
     ensures gives { GivesMore (λ x. (tt, pieces x.now)) result (one_more (the Symbol.Dot) (λ _. skipped_name) (pieces tokens.now)) }
     ensures fewer { IfOk result (λ more. IfSome more (λ x. length x.now < length tokens.now)) }
@@ -72,7 +72,7 @@ fn skip_dotted(tokens: &[Token]) -> Result<&[Token], Stop>
     Ok(rest)
 }
 
-// What is behind `using`.
+// What is after `using`.
 #[tactic(auto, unfolding(ss_grammar_programs::specs::Parser::using_end))]
 fn skip_using_end(tokens: &[Token]) -> Result<&[Token], Stop>
     ensures gives { GivesRest (λ x. pieces x.now) result (using_end (pieces tokens.now)) }
@@ -84,7 +84,7 @@ fn skip_using_end(tokens: &[Token]) -> Result<&[Token], Stop>
     Ok(rest)
 }
 
-// Behind a `using` line, where one begins.
+// After a `using` line, where one begins.
 fn skip_using(tokens: &[Token]) -> Result<Option<&[Token]>, Stop>
     ensures gives { GivesMore (λ x. (tt, pieces x.now)) result (one_more (the_word word.Using) (λ _. using_end) (pieces tokens.now)) }
     ensures fewer { IfOk result (λ more. IfSome more (λ x. length x.now < length tokens.now)) }
@@ -101,7 +101,7 @@ fn skip_using(tokens: &[Token]) -> Result<Option<&[Token]>, Stop>
     }
 }
 
-/// What is behind the `using` lines that stand here.
+/// What is after the `using` lines that stand here.
 #[tactic(auto, unfolding(ss_grammar_programs::specs::Parser::usings))]
 pub fn skip_usings(tokens: &[Token]) -> Result<&[Token], Stop>
     ensures gives { GivesRest (λ x. pieces x.now) result (usings (pieces tokens.now)) }

@@ -16,9 +16,9 @@ use Rattle.ss_typed.specs.Tree.{ExprTree, FieldOf, BaseOf, arguments}
 use Rattle.ss_typed.specs.View.{Behind, grouped, expr_step, link_step, step_step, expr}
 use Rattle.ss_typed.specs.Shapes.{is_this}
 use Rattle.ss_delayed_rules.specs.Escapes.{Use, ForFields, NotAtAll, may_read, uses, uses_each}
-use Rattle.ss_typed.specs.Parts.{link_behind, step_behind}
+use Rattle.ss_typed.specs.Parts.{link_after, step_after}
 use Rattle.ss_typed.proofs.Grouping.{chain_is, link_shape, path_is, step_shape, quantified_is}
-use Rattle.ss_typed.proofs.OwnFields.{no_this_behind}
+use Rattle.ss_typed.proofs.OwnFields.{no_this_after}
 use Rattle.ss_delayed.specs.Parts.{no_place, nothing, link_uses, links_uses, step_uses, steps_uses, is_field, is_allowed_read, unless}
 
 -- ---- chains
@@ -28,19 +28,19 @@ link_added u (shape.Operation op e) p t = refl
 link_added u (shape.Is c) p t = sym (append-nil (uses u t))
 link_added u (shape.As c) p t = sym (append-nil (uses u t))
 
-uses_link : (u : Use) (l : TypedLink) (p : Place) (t : ExprTree) → uses u (link_behind l p t) ≡ uses u t ++ link_uses u l
+uses_link : (u : Use) (l : TypedLink) (p : Place) (t : ExprTree) → uses u (link_after l p t) ≡ uses u t ++ link_uses u l
 uses_link u l p t =
     let s = link_shape l in
     ap (λ (b : Behind). uses u (b p t)) s.is ∙ link_added u s.shape p t ∙ sym (ap (λ (b : Behind). uses u t ++ uses u (b no_place nothing)) s.is)
 
-uses_links : (u : Use) (p : Place) (t : ExprTree) (ls : List TypedLink) → uses u (grouped p t (map link_behind ls)) ≡ uses u t ++ links_uses u ls
+uses_links : (u : Use) (p : Place) (t : ExprTree) (ls : List TypedLink) → uses u (grouped p t (map link_after ls)) ≡ uses u t ++ links_uses u ls
 uses_links u p t [] = sym (append-nil (uses u t))
 uses_links u p t (l ∷ ls) =
-    uses_links u p (link_behind l p t) ls
+    uses_links u p (link_after l p t) ls
     ∙ ap (λ x. x ++ links_uses u ls) (uses_link u l p t)
     ∙ append_assoc (uses u t) (link_uses u l) (links_uses u ls)
 
--- behind a chain
+-- after a chain
 pub chain_found : (u : Use) (p : Place) (first : Box TypedExpr Global) (links : Vec TypedLink Global) (e : TypedExpr) (l : List TypedLink) (x : TypedExpr) (f0 f1 f2 : List Place)
     → e ≡ view.Chain p first links → x ≡ first.value → l ≡ links.items → f1 ≡ f0 ++ uses u (expr x) → f2 ≡ f1 ++ links_uses u l → f2 ≡ f0 ++ uses u (expr e)
 chain_found u p first links e l x f0 f1 f2 is x_is l_is a b =
@@ -67,7 +67,7 @@ step_added u shape.Length p t = sym (append-nil (uses u t))
 step_added u (shape.Call m ty es) p t = refl
 
 uses_step : (u : Use) (s : TypedStep) (p : Place) (t : ExprTree)
-    → uses u (step_behind s p t) ≡ unless (is_field (step_behind s no_place nothing) && (may_read u && is_this t)) (uses u t) ++ step_uses u s
+    → uses u (step_after s p t) ≡ unless (is_field (step_after s no_place nothing) && (may_read u && is_this t)) (uses u t) ++ step_uses u s
 uses_step u s p t =
     let made = step_shape s in
     ap (λ (b : Behind). uses u (b p t)) made.is ∙ step_added u made.shape p t
@@ -78,25 +78,25 @@ never true true = refl
 never true false = refl
 never false b = refl
 
--- no field of `this` is read behind what isn't `this`
+-- no field of `this` is read after what isn't `this`
 not_this_read : (u : Use) (a : Bool) (t : ExprTree) → is_this t ≡ false → unless (a && (may_read u && is_this t)) (uses u t) ≡ uses u t
 not_this_read u a t n = ap (λ x. unless (a && (may_read u && x)) (uses u t)) n ∙ ap (λ x. unless x (uses u t)) (never a (may_read u))
 
-uses_steps : (u : Use) (p : Place) (t : ExprTree) (ss : List TypedStep) → is_this t ≡ false → uses u (grouped p t (map step_behind ss)) ≡ uses u t ++ steps_uses u ss
+uses_steps : (u : Use) (p : Place) (t : ExprTree) (ss : List TypedStep) → is_this t ≡ false → uses u (grouped p t (map step_after ss)) ≡ uses u t ++ steps_uses u ss
 uses_steps u p t [] n = sym (append-nil (uses u t))
 uses_steps u p t (s ∷ ss) n =
-    uses_steps u p (step_behind s p t) ss (no_this_behind s p t)
-    ∙ ap (λ x. x ++ steps_uses u ss) (uses_step u s p t ∙ ap (λ x. x ++ step_uses u s) (not_this_read u (is_field (step_behind s no_place nothing)) t n))
+    uses_steps u p (step_after s p t) ss (no_this_after s p t)
+    ∙ ap (λ x. x ++ steps_uses u ss) (uses_step u s p t ∙ ap (λ x. x ++ step_uses u s) (not_this_read u (is_field (step_after s no_place nothing)) t n))
     ∙ append_assoc (uses u t) (step_uses u s) (steps_uses u ss)
 
-uses_path : (u : Use) (p : Place) (t : ExprTree) (ss : List TypedStep) → uses u (grouped p t (map step_behind ss)) ≡ unless (is_allowed_read u t ss) (uses u t) ++ steps_uses u ss
+uses_path : (u : Use) (p : Place) (t : ExprTree) (ss : List TypedStep) → uses u (grouped p t (map step_after ss)) ≡ unless (is_allowed_read u t ss) (uses u t) ++ steps_uses u ss
 uses_path u p t [] = sym (append-nil (uses u t))
 uses_path u p t (s ∷ ss) =
-    uses_steps u p (step_behind s p t) ss (no_this_behind s p t)
+    uses_steps u p (step_after s p t) ss (no_this_after s p t)
     ∙ ap (λ x. x ++ steps_uses u ss) (uses_step u s p t)
     ∙ append_assoc (unless (is_allowed_read u t (s ∷ ss)) (uses u t)) (step_uses u s) (steps_uses u ss)
 
--- behind a path
+-- after a path
 pub path_found : (u : Use) (p : Place) (first : Box TypedExpr Global) (steps : Vec TypedStep Global) (e : TypedExpr) (l m : List TypedStep) (x y : TypedExpr) (b : Bool) (f0 f1 f2 : List Place)
     → e ≡ view.Path p first steps → x ≡ first.value → y ≡ first.value → l ≡ steps.items → m ≡ steps.items → b ≡ is_allowed_read u (expr y) m
     → f1 ≡ f0 ++ unless b (uses u (expr x)) → f2 ≡ f1 ++ steps_uses u l → f2 ≡ f0 ++ uses u (expr e)

@@ -4,7 +4,7 @@ use Rattle.std.specs.Prelude.{option_and_then}
 use Rattle.ss_core.specs.declared.names.Place.{Place}
 use Rattle.ss_typed.specs.Tree.{ExprTree, DeclaratorTree, SimpleTree, InitTree, DeclareFirst, SimpleFirst, BlockTree, BlockOf, StmtTree, InBlock, DeclareOf, SimpleOf, IfOf, IfElseOf, WhileOf, ForOf, ReturnOf, AssertOf, AssumeOf, ExposeOf, EmptyOf, StmtTrees, NoMore, Before, TypedTree}
 use Rattle.ss_paths.specs.Fields.{Numbers}
-use Rattle.ss_paths.specs.Paths.{met, all_declared, begun, test_of, behind, behind_block, at_end, declared_faults, first_faults, step_faults, in_loop, behind_first, faults_at, faults_in, faults_along}
+use Rattle.ss_paths.specs.Paths.{met, all_declared, begun, test_of, behind, after_block, at_end, declared_faults, first_faults, step_faults, in_loop, behind_first, faults_at, faults_in, faults_along}
 use Rattle.ss_typed.specs.Shapes.{is_true}
 use Rattle.ss_paths.specs.Assigned.{Assigned, assigned_flow}
 use Rattle.ss_delayed_rules.specs.Constructors.{unassigned_faults, end_check}
@@ -35,7 +35,7 @@ joined_same n None l = refl
 joined_same n (Some a) None = refl
 joined_same n (Some a) (Some b) = refl
 
--- ---- what is known behind
+-- ---- what is known after
 
 none_left : (b : Bool) → None ≡ left_with b None
 none_left true = refl
@@ -73,7 +73,7 @@ mutual
   walked_is n (EmptyOf p) None = refl
   walked_is n (EmptyOf p) (Some k) = refl
 
-  pub walked_in_is : (n : Numbers) (b : BlockTree) (k : Known) → option_and_then (behind_block (assigned_flow n) b) k ≡ walked_in n b k
+  pub walked_in_is : (n : Numbers) (b : BlockTree) (k : Known) → option_and_then (after_block (assigned_flow n) b) k ≡ walked_in n b k
   walked_in_is n (BlockOf p ss end) None = sym (dead n ss) ∙ walked_along_is n ss None
   walked_in_is n (BlockOf p ss end) (Some k) = walked_along_is n ss (Some k)
 

@@ -10,7 +10,7 @@ use Rattle.ss_typed.specs.Tree.{ExprTree, FieldOf}
 use Rattle.ss_typed.specs.Shapes.{is_this}
 use Rattle.ss_delayed_rules.specs.Escapes as escapes
 use Rattle.ss_delayed_rules.specs.Escapes.{may_read, uses, uses_left}
-use Rattle.ss_typed.specs.Parts.{link_behind, step_behind}
+use Rattle.ss_typed.specs.Parts.{link_after, step_after}
 pub use Rattle.ss_typed.specs.Parts.{nothing}
 use Rattle.ss_delayed.specs.declared.escapes.Use.{Use}
 use Rattle.ss_delayed.specs.declared.escapes.Use.TheVariants as allowed
@@ -21,10 +21,10 @@ use_of allowed.NotAtAll = escapes.NotAtAll
 
 -- what a link or a step adds to the places in what stands before it
 abbrev pub link_uses : escapes.Use → TypedLink → List Place
-link_uses u l = uses u (link_behind l no_place nothing)
+link_uses u l = uses u (link_after l no_place nothing)
 
 abbrev pub step_uses : escapes.Use → TypedStep → List Place
-step_uses u s = uses u (step_behind s no_place nothing)
+step_uses u s = uses u (step_after s no_place nothing)
 
 abbrev pub links_uses : escapes.Use → List TypedLink → List Place
 links_uses u [] = []
@@ -42,7 +42,7 @@ is_field e = false
 
 abbrev pub starts_with_field : List TypedStep → Bool
 starts_with_field [] = false
-starts_with_field (s ∷ ss) = is_field (step_behind s no_place nothing)
+starts_with_field (s ∷ ss) = is_field (step_after s no_place nothing)
 
 -- what a path begins with is `this`, of which it reads a field where that is allowed
 abbrev pub is_allowed_read : escapes.Use → ExprTree → List TypedStep → Bool

@@ -73,8 +73,8 @@ fn with_assigned(
     Ok(assigned)
 }
 
-// Behind a simple statement.
-fn behind_done(
+// After a simple statement.
+fn after_done(
     numbers: Numbers,
     done: &TypedSimple,
     known: Option<Assigned>,
@@ -90,7 +90,7 @@ fn behind_done(
     }
 }
 
-// Behind what a `for` begins with.
+// After what a `for` begins with.
 fn behind_first(
     numbers: Numbers,
     first: &Option<TypedInit>,
@@ -100,7 +100,7 @@ fn behind_first(
 {
     match first {
         Some(TypedInit::Simple(done)) => {
-            let behind = behind_done(numbers, done, known)?;
+            let behind = after_done(numbers, done, known)?;
             Ok(behind)
         }
         Some(TypedInit::Declare(_)) => Ok(known),
@@ -118,14 +118,14 @@ fn is_endless(test: &Option<TypedExpr>) -> bool
     }
 }
 
-// Behind a loop.
+// After a loop.
 fn leave(is_endless: bool, known: Option<Assigned>) -> Option<Assigned>
     ensures { known_of result ≡ left_with is_endless (known_of known) }
 {
     if is_endless { None } else { known }
 }
 
-// Says what is assigned behind the statement, and notes the returns in it that leave a field without a value.
+// Says what is assigned after the statement, and notes the returns in it that leave a field without a value.
 #[cycle(walk)]
 fn walk(
     context: &ConstructorContext<'_>,
@@ -141,7 +141,7 @@ fn walk(
         TypedStmt::Block(block) | TypedStmt::Expose(_, _, _, block) => {
             walk_in(context, block, known, found)
         }
-        TypedStmt::Simple(done) => Ok(behind_done(context.numbers, done, known)?),
+        TypedStmt::Simple(done) => Ok(after_done(context.numbers, done, known)?),
         TypedStmt::If(_, _, first, None) => {
             let around = copy(&known)?;
             let behind = walk(context, first, known, found)?;

@@ -4,7 +4,7 @@ ghost use Rattle.std.specs.Prelude.{◌≡◌, [], ◌∷◌, ◌++◌, OnOk, ma
 ghost use Rattle.ss_typed.specs.Tree.{arguments};
 ghost use Rattle.ss_typed.specs.View.{expr};
 ghost use Rattle.ss_delayed_rules.specs.Escapes.{may_read, uses, uses_each};
-ghost use Rattle.ss_typed.specs.Parts.{step_behind};
+ghost use Rattle.ss_typed.specs.Parts.{step_after};
 ghost use Rattle.ss_delayed.specs.Parts.{use_of, no_place, nothing, link_uses, links_uses, step_uses, steps_uses, is_field, starts_with_field, is_allowed_read, unless};
 
 use ss_core::Place;
@@ -30,7 +30,7 @@ fn may_read(allowed: Use) -> bool
 }
 
 fn is_field(step: &TypedStep) -> bool
-    ensures { result ≡ is_field (step_behind step.now no_place nothing) }
+    ensures { result ≡ is_field (step_after step.now no_place nothing) }
 {
     match step {
         TypedStep::Field(..) => true,
@@ -125,7 +125,7 @@ fn find_unless(
     Ok(())
 }
 
-// What stands behind the first operand of a chain.
+// What stands after the first operand of a chain.
 #[cycle(uses)]
 fn find_in_links(
     allowed: Use,
@@ -153,7 +153,7 @@ fn find_in_link(allowed: Use, link: &TypedLink, found: &mut Vec<Place>) -> Resul
     }
 }
 
-// What stands behind the beginning of a path.
+// What stands after the beginning of a path.
 #[cycle(uses)]
 fn find_in_steps(
     allowed: Use,

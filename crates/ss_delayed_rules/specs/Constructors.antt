@@ -14,7 +14,7 @@ use Rattle.ss_typed.specs.Constructors.{is_delayed_body}
 use Rattle.ss_paths.specs.Fields.{is_non_null, own_fields, field_numbers}
 use Rattle.ss_typed.specs.Lookups.{constructor_of}
 use Rattle.ss_paths.specs.Sets.{Set}
-use Rattle.ss_paths.specs.Paths.{Check, at_end, behind_block, faults_in}
+use Rattle.ss_paths.specs.Paths.{Check, at_end, after_block, faults_in}
 use Rattle.ss_paths.specs.Assigned.{Assigned, assigned_flow, assigned_by_initializers, assigned_first}
 use Rattle.ss_delayed_rules.specs.Escapes.{Use, ForFields, NotAtAll, uses_each, uses_in_all, uses_in, uses_along}
 use Rattle.ss_delayed_rules.specs.Opening.{opening, written_base}
@@ -64,7 +64,7 @@ end_check p t end = record {
 abbrev pub end_faults : TypedTree → BodyTree → List Fault
 end_faults p b =
     faults_in (assigned_flow (field_numbers p b.class)) (end_check p b.class (closing_brace b.block)) b.block (Some (assigned_first p b))
-    ++ unassigned_faults p b.class (closing_brace b.block) (behind_block (assigned_flow (field_numbers p b.class)) b.block (assigned_first p b))
+    ++ unassigned_faults p b.class (closing_brace b.block) (after_block (assigned_flow (field_numbers p b.class)) b.block (assigned_first p b))
 
 abbrev pub arguments_of : Option BaseTree → Arguments
 arguments_of None = NoMore
@@ -80,7 +80,7 @@ abbrev pub place_of_base : BodyTree → Option BaseTree → Place
 place_of_base b None = b.place
 place_of_base b (Some base) = base.place
 
--- up to `base(..)`, its arguments included, `this` is only written to, and then the fields are assigned; behind it `this` is free
+-- up to `base(..)`, its arguments included, `this` is only written to, and then the fields are assigned; after it `this` is free
 abbrev pub undelayed_faults : TypedTree → BodyTree → List Fault
 undelayed_faults p b =
     escapes (uses_along NotAtAll (opening p b) ++ uses_each NotAtAll (arguments_of (written_base b)))

@@ -12,7 +12,7 @@ abbrev pub opening_of : TypedTree → ℕ → Option BaseTree → StmtTrees → 
 opening_of p t (Some base) ss = NoMore
 opening_of p t None ss = if has_base ss then before_base ss else first_run p t ss
 
--- The statements before `base(..)`: `: base(..)` stands before the whole block, and where none is written it is implied behind the longest run.
+-- The statements before `base(..)`: `: base(..)` stands before the whole block, and where none is written it is implied after the longest run.
 abbrev pub opening : TypedTree → BodyTree → StmtTrees
 opening p b = opening_of p b.class b.base (in_block b.block)
 

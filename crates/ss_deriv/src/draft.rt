@@ -26,7 +26,7 @@ impl Cases {
         }
     }
 
-    // The cases after a line that has its place behind `count` lines.
+    // The cases after a line that has its place after `count` lines.
     fn after(&self, line: &Line, count: usize) -> Cases
         requires place { IsSome (after (place_of self.now) (turn_of line.now)) }
         requires few { self.now.waiting ≤ count * 2 ^ 64 }

@@ -11,7 +11,7 @@ use Rattle.ss_equality_rules.proofs.Lists.{front_pushed}
 
 -- ---- a list with its lengths at some earlier times
 
--- the k-th length, and behind the last that of now
+-- the k-th length, and after the last that of now
 abbrev at : {A : Type 0} → List ℕ → List A → ℕ → ℕ
 at cs xs k = get_or cs k (length xs)
 

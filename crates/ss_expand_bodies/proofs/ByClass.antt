@@ -42,18 +42,18 @@ perhaps : (own : Bool) (t m : ℕ) (ms rest : List Origin) → From t (ms ++ res
 perhaps true t m ms rest h = one_more (Method t m) (ms ++ rest) h
 perhaps false t m ms rest h = h
 
-methods_behind : (p : TypedTree) (t m : ℕ) (es : List EntryTree) (rest : List Origin) → From t rest → From t (methods_from p t m es ++ rest)
-methods_behind p t m [] rest h = h
-methods_behind p t m (e ∷ es) rest h = perhaps (is_own t (body_at p e.body)) t m (methods_from p t (m + 1) es) rest (methods_behind p t (m + 1) es rest h)
+methods_after : (p : TypedTree) (t m : ℕ) (es : List EntryTree) (rest : List Origin) → From t rest → From t (methods_from p t m es ++ rest)
+methods_after p t m [] rest h = h
+methods_after p t m (e ∷ es) rest h = perhaps (is_own t (body_at p e.body)) t m (methods_from p t (m + 1) es) rest (methods_after p t (m + 1) es rest h)
 
-bodies_behind : (p : TypedTree) (t : ℕ) (cs : List ClassTree) → From t (bodies_from p t cs)
-bodies_behind p t [] = none t
-bodies_behind p t (c ∷ cs) =
+bodies_after : (p : TypedTree) (t : ℕ) (cs : List ClassTree) → From t (bodies_from p t cs)
+bodies_after p t [] = none t
+bodies_after p t (c ∷ cs) =
     let rest = bodies_from p (t + 2) cs in
-    one_more (Constructor t) (methods_from p t 0 (table p t) ++ rest) (methods_behind p t 0 (table p t) rest (lower t rest (bodies_behind p (t + 2) cs)))
+    one_more (Constructor t) (methods_from p t 0 (table p t) ++ rest) (methods_after p t 0 (table p t) rest (lower t rest (bodies_after p (t + 2) cs)))
 
 pub listed_by_class : (p : TypedTree) (os : List Origin) → os ≡ bodies p → IsByClass os
-listed_by_class p os e = subst IsByClass (sym e) (bodies_behind p 4 p.classes).rises
+listed_by_class p os e = subst IsByClass (sym e) (bodies_after p 4 p.classes).rises
 
 -- the same of the code's list
 pub by_class_in_code : (os : List code.Origin) → IsByClass (map origin_of os) → IsNonDecreasingBy (λ o. class_in (origin_of o)) os
@@ -93,9 +93,9 @@ shifted : (k a b c d : ℕ) → c ≡ k + a → d ≡ k + b → cond (ltb c d) (
 shifted k a b c d e f = grind (arith, nat_tests)
 
 module _ {X Y : Type 0} (p : Y → Bool) (f : X → Y) where
-  position_behind : (os : List X) (k : ℕ) → k ≤ length os → ((i : ℕ) (d : X) → i < k → p (f (get_or os i d)) ≡ false)
+  position_after : (os : List X) (k : ℕ) → k ≤ length os → ((i : ℕ) (d : X) → i < k → p (f (get_or os i d)) ≡ false)
       → position p (map f os) ≡ option_map (λ i. k + i) (position p (map f (drop k os)))
-  position_behind os k l h =
+  position_after os k l h =
       let all : length (map f os) ≡ k + length (map f (drop k os)) = omega (arith, length-map os f, length-map (drop k os) f, length-drop k os) in
       shifted k _ _ _ _ (behind p f os k l h) all
 
@@ -105,5 +105,5 @@ module _ {X Y : Type 0} (p : Y → Bool) (f : X → Y) where
 pub found_in_class : (o : Origin) (os rest : List code.Origin) (t k : ℕ) (r : Option ℕ) → t ≡ class_in o → k ≤ length os → AllWithin (λ q. class_in (origin_of q) < t) os 0 k
     → rest ≡ drop k os → r ≡ position (same_origin o) (map origin_of rest) → option_map (λ i. k + i) r ≡ position (same_origin o) (map origin_of os)
 found_in_class o os rest t k r e l h same found =
-    let none_before = position_behind (same_origin o) origin_of os k l (λ i d s. apart o (origin_of (get_or os i d)) (omega (arith, e, h i d (omega arith) s))) in
+    let none_before = position_after (same_origin o) origin_of os k l (λ i d s. apart o (origin_of (get_or os i d)) (omega (arith, e, h i d (omega arith) s))) in
     ap (option_map (λ i. k + i)) (found ∙ ap (λ qs. position (same_origin o) (map origin_of qs)) same) ∙ sym none_before

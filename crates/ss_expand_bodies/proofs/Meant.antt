@@ -1,7 +1,7 @@
 -- What parameters are meant by, one more of them.
 use Rattle.std.proofs.Common.{ℕ, ◌≡◌, ◌+◌, ◌++◌, List, [], ◌∷◌, length, cond, Bool, true, false, append_assoc, arith}
 
--- the list goes on behind one that is copied, or that isn't
+-- the list goes on after one that is copied, or that isn't
 pub meant_next : (assigned : Bool) (before : List ℕ) (copy x : ℕ) (rest : ℕ → List ℕ)
     → (before ++ cond assigned copy x ∷ []) ++ rest (cond assigned (copy + 1) copy) ≡ before ++ cond assigned (copy ∷ rest (copy + 1)) (x ∷ rest copy)
 meant_next true before copy x rest = append_assoc before (copy ∷ []) (rest (copy + 1))

@@ -46,7 +46,7 @@ fn add_one_meant(
     }
 }
 
-// Adds what these parameters are meant by, of which the first has this number. The result is the number behind their copies.
+// Adds what these parameters are meant by, of which the first has this number. The result is the number after their copies.
 fn add_meant(
     alloc: Global,
     meant: &mut Vec<usize>,

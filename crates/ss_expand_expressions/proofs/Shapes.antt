@@ -17,7 +17,7 @@ use Rattle.ss_typed.specs.declared.expr.TypedExpr.TheOpen as shape
 use Rattle.ss_typed.specs.declared.expr.TypedExpr.TheOpen.{TypedLink-F, TypedStep-F}
 use Rattle.ss_typed.specs.Tree.{ExprTree}
 use Rattle.ss_typed.specs.View.{Behind, link_step, step_step}
-use Rattle.ss_typed.specs.Parts.{link_behind, linked, step_behind, stepped}
+use Rattle.ss_typed.specs.Parts.{link_after, linked, step_after, stepped}
 use Rattle.ss_typed.proofs.Grouping.{link_shape, step_shape, linked_push, stepped_push}
 use Rattle.ss_expand_rules.specs.Calls.{has_call}
 use Rattle.std.proofs.lemmas.List.{map-append}
@@ -35,17 +35,17 @@ pub core_grouped_push : (p : Place) (e : tree.ExprTree) (bs : List core.Behind) 
 core_grouped_push p e [] b = refl
 core_grouped_push p e (x ∷ bs) b = core_grouped_push p (x p e) bs b
 
-pub core_linked_push : (p : Place) (e : tree.ExprTree) (ls : List Link) (l : Link) → core_parts.chain_front p e (ls ++ l ∷ []) ≡ core_parts.link_behind l p (core_parts.chain_front p e ls)
-core_linked_push p e ls l = ap (λ bs. core.grouped p e bs) (map-append core_parts.link_behind ls (l ∷ [])) ∙ core_grouped_push p e (map core_parts.link_behind ls) (core_parts.link_behind l)
+pub core_linked_push : (p : Place) (e : tree.ExprTree) (ls : List Link) (l : Link) → core_parts.chain_front p e (ls ++ l ∷ []) ≡ core_parts.link_after l p (core_parts.chain_front p e ls)
+core_linked_push p e ls l = ap (λ bs. core.grouped p e bs) (map-append core_parts.link_after ls (l ∷ [])) ∙ core_grouped_push p e (map core_parts.link_after ls) (core_parts.link_after l)
 
-pub core_stepped_push : (p : Place) (e : tree.ExprTree) (ls : List Step) (l : Step) → core_parts.path_front p e (ls ++ l ∷ []) ≡ core_parts.step_behind l p (core_parts.path_front p e ls)
-core_stepped_push p e ls l = ap (λ bs. core.grouped p e bs) (map-append core_parts.step_behind ls (l ∷ [])) ∙ core_grouped_push p e (map core_parts.step_behind ls) (core_parts.step_behind l)
+pub core_stepped_push : (p : Place) (e : tree.ExprTree) (ls : List Step) (l : Step) → core_parts.path_front p e (ls ++ l ∷ []) ≡ core_parts.step_after l p (core_parts.path_front p e ls)
+core_stepped_push p e ls l = ap (λ bs. core.grouped p e bs) (map-append core_parts.step_after ls (l ∷ [])) ∙ core_grouped_push p e (map core_parts.step_after ls) (core_parts.step_after l)
 
 -- the first links up to one more
-pub linked_next : (p : Place) (e : ExprTree) (ls : List TypedLink) (i : ℕ) (l : TypedLink) → i < length ls → l ≡ get_or ls i l → linked p e (take (suc i) ls) ≡ link_behind l p (linked p e (take i ls))
+pub linked_next : (p : Place) (e : ExprTree) (ls : List TypedLink) (i : ℕ) (l : TypedLink) → i < length ls → l ≡ get_or ls i l → linked p e (take (suc i) ls) ≡ link_after l p (linked p e (take i ls))
 linked_next p e ls i l h g = ap (λ xs. linked p e xs) (take_item ls i l h g) ∙ linked_push p e (take i ls) l
 
-pub stepped_next : (p : Place) (e : ExprTree) (ls : List TypedStep) (i : ℕ) (l : TypedStep) → i < length ls → l ≡ get_or ls i l → stepped p e (take (suc i) ls) ≡ step_behind l p (stepped p e (take i ls))
+pub stepped_next : (p : Place) (e : ExprTree) (ls : List TypedStep) (i : ℕ) (l : TypedStep) → i < length ls → l ≡ get_or ls i l → stepped p e (take (suc i) ls) ≡ step_after l p (stepped p e (take i ls))
 stepped_next p e ls i l h g = ap (λ xs. stepped p e xs) (take_item ls i l h g) ∙ stepped_push p e (take i ls) l
 
 -- ---- a call before them stays one
@@ -67,11 +67,11 @@ step_keeps (shape.Call m t es) p e h = refl
 
 pub links_keep : (p : Place) (e : ExprTree) (ls : List TypedLink) → has_call e ≡ true → has_call (linked p e ls) ≡ true
 links_keep p e [] h = h
-links_keep p e (l ∷ ls) h = links_keep p (link_behind l p e) ls (ap (λ (b : Behind). has_call (b p e)) (link_shape l).is ∙ link_keeps (link_shape l).shape p e h)
+links_keep p e (l ∷ ls) h = links_keep p (link_after l p e) ls (ap (λ (b : Behind). has_call (b p e)) (link_shape l).is ∙ link_keeps (link_shape l).shape p e h)
 
 pub steps_keep : (p : Place) (e : ExprTree) (ls : List TypedStep) → has_call e ≡ true → has_call (stepped p e ls) ≡ true
 steps_keep p e [] h = h
-steps_keep p e (l ∷ ls) h = steps_keep p (step_behind l p e) ls (ap (λ (b : Behind). has_call (b p e)) (step_shape l).is ∙ step_keeps (step_shape l).shape p e h)
+steps_keep p e (l ∷ ls) h = steps_keep p (step_after l p e) ls (ap (λ (b : Behind). has_call (b p e)) (step_shape l).is ∙ step_keeps (step_shape l).shape p e h)
 
 -- ---- whether a call stands in the whole rests on whether one stands before
 
@@ -86,34 +86,34 @@ step_same (shape.Element i) p e f h = ap (λ x. x || has_call i) h
 step_same shape.Length p e f h = h
 step_same (shape.Call m t es) p e f h = refl
 
-one_link_same : (l : TypedLink) (p : Place) (e f : ExprTree) → has_call e ≡ has_call f → has_call (link_behind l p e) ≡ has_call (link_behind l p f)
+one_link_same : (l : TypedLink) (p : Place) (e f : ExprTree) → has_call e ≡ has_call f → has_call (link_after l p e) ≡ has_call (link_after l p f)
 one_link_same l p e f h = ap (λ (b : Behind). has_call (b p e)) (link_shape l).is ∙ link_same (link_shape l).shape p e f h ∙ sym (ap (λ (b : Behind). has_call (b p f)) (link_shape l).is)
 
-one_step_same : (l : TypedStep) (p : Place) (e f : ExprTree) → has_call e ≡ has_call f → has_call (step_behind l p e) ≡ has_call (step_behind l p f)
+one_step_same : (l : TypedStep) (p : Place) (e f : ExprTree) → has_call e ≡ has_call f → has_call (step_after l p e) ≡ has_call (step_after l p f)
 one_step_same l p e f h = ap (λ (b : Behind). has_call (b p e)) (step_shape l).is ∙ step_same (step_shape l).shape p e f h ∙ sym (ap (λ (b : Behind). has_call (b p f)) (step_shape l).is)
 
 pub links_same : (p : Place) (e f : ExprTree) (ls : List TypedLink) → has_call e ≡ has_call f → has_call (linked p e ls) ≡ has_call (linked p f ls)
 links_same p e f [] h = h
-links_same p e f (l ∷ ls) h = links_same p (link_behind l p e) (link_behind l p f) ls (one_link_same l p e f h)
+links_same p e f (l ∷ ls) h = links_same p (link_after l p e) (link_after l p f) ls (one_link_same l p e f h)
 
 pub steps_same : (p : Place) (e f : ExprTree) (ls : List TypedStep) → has_call e ≡ has_call f → has_call (stepped p e ls) ≡ has_call (stepped p f ls)
 steps_same p e f [] h = h
-steps_same p e f (l ∷ ls) h = steps_same p (step_behind l p e) (step_behind l p f) ls (one_step_same l p e f h)
+steps_same p e f (l ∷ ls) h = steps_same p (step_after l p e) (step_after l p f) ls (one_step_same l p e f h)
 
 or_false : (b : Bool) → (b || false) ≡ b
 or_false true = refl
 or_false false = refl
 
 -- a link without a call may be left out
-pub link_without : (p : Place) (e : ExprTree) (l : TypedLink) (ls : List TypedLink) → has_call (link_behind l p e) ≡ (has_call e || false) → has_call (linked p e (l ∷ ls)) ≡ has_call (linked p e ls)
-link_without p e l ls h = links_same p (link_behind l p e) e ls (h ∙ or_false (has_call e))
+pub link_without : (p : Place) (e : ExprTree) (l : TypedLink) (ls : List TypedLink) → has_call (link_after l p e) ≡ (has_call e || false) → has_call (linked p e (l ∷ ls)) ≡ has_call (linked p e ls)
+link_without p e l ls h = links_same p (link_after l p e) e ls (h ∙ or_false (has_call e))
 
-pub step_without : (p : Place) (e : ExprTree) (l : TypedStep) (ls : List TypedStep) → has_call (step_behind l p e) ≡ (has_call e || false) → has_call (stepped p e (l ∷ ls)) ≡ has_call (stepped p e ls)
-step_without p e l ls h = steps_same p (step_behind l p e) e ls (h ∙ or_false (has_call e))
+pub step_without : (p : Place) (e : ExprTree) (l : TypedStep) (ls : List TypedStep) → has_call (step_after l p e) ≡ (has_call e || false) → has_call (stepped p e (l ∷ ls)) ≡ has_call (stepped p e ls)
+step_without p e l ls h = steps_same p (step_after l p e) e ls (h ∙ or_false (has_call e))
 
--- behind one with a call there is one
-pub link_with : (p : Place) (e : ExprTree) (l : TypedLink) (ls : List TypedLink) → has_call (link_behind l p e) ≡ (has_call e || true) → has_call (linked p e (l ∷ ls)) ≡ (has_call e || true)
-link_with p e l ls h = links_keep p (link_behind l p e) ls (h ∙ or_true (has_call e)) ∙ sym (or_true (has_call e))
+-- after one with a call there is one
+pub link_with : (p : Place) (e : ExprTree) (l : TypedLink) (ls : List TypedLink) → has_call (link_after l p e) ≡ (has_call e || true) → has_call (linked p e (l ∷ ls)) ≡ (has_call e || true)
+link_with p e l ls h = links_keep p (link_after l p e) ls (h ∙ or_true (has_call e)) ∙ sym (or_true (has_call e))
 
-pub step_with : (p : Place) (e : ExprTree) (l : TypedStep) (ls : List TypedStep) → has_call (step_behind l p e) ≡ (has_call e || true) → has_call (stepped p e (l ∷ ls)) ≡ (has_call e || true)
-step_with p e l ls h = steps_keep p (step_behind l p e) ls (h ∙ or_true (has_call e)) ∙ sym (or_true (has_call e))
+pub step_with : (p : Place) (e : ExprTree) (l : TypedStep) (ls : List TypedStep) → has_call (step_after l p e) ≡ (has_call e || true) → has_call (stepped p e (l ∷ ls)) ≡ (has_call e || true)
+step_with p e l ls h = steps_keep p (step_after l p e) ls (h ∙ or_true (has_call e)) ∙ sym (or_true (has_call e))

@@ -16,11 +16,11 @@ use Rattle.ss_typed.specs.Shapes.{place_of}
 use Rattle.ss_expand_rules.specs.Lifting as lifting
 use Rattle.ss_expand_rules.specs.Lifting.{ElaborationContext, Lifted, Valued, right_side, in_temporary, next, put}
 use Rattle.ss_expand_expressions.specs.declared.operands.Operand.{Operand}
-use Rattle.ss_expand_expressions.specs.Sources.{lifted_by, lifted_behind}
+use Rattle.ss_expand_expressions.specs.Sources.{lifted_by, lifted_after}
 
--- the expression has been lifted behind this code, where temporaries of these types were made, and this is known of it
+-- the expression has been lifted after this code, where temporaries of these types were made, and this is known of it
 pub record IsOperand (s : ElaborationContext) (e : ExprTree) (before : List core.StmtTree) (types : List Ty) (code : Vec Stmt) (made : Vec Ty) (o : Operand) : Type 0 where
-  pub lifted : lifted_by code made o.source ≡ lifted_behind before (right_side s e types)
+  pub lifted : lifted_by code made o.source ≡ lifted_after before (right_side s e types)
   pub place : o.place ≡ place_of e
   pub ty : o.ty ≡ type_of e
   pub calls : o.has_call ≡ has_call e

@@ -29,12 +29,12 @@ valued_by code made e = record { code = stmts_of code; value = expr e; made = ma
 abbrev pub listed_by : Vec Stmt → Vec Ty → Vec Expr → Listed
 listed_by code made es = record { code = stmts_of code; values = exprs es.items; made = made.items }
 
--- the same behind this code
-abbrev pub lifted_behind : List core.StmtTree → Lifted → Lifted
-lifted_behind code l = record l { code = code ++ l.code }
+-- the same after this code
+abbrev pub lifted_after : List core.StmtTree → Lifted → Lifted
+lifted_after code l = record l { code = code ++ l.code }
 
-abbrev pub valued_behind : List core.StmtTree → Valued → Valued
-valued_behind code v = record v { code = code ++ v.code }
+abbrev pub valued_after : List core.StmtTree → Valued → Valued
+valued_after code v = record v { code = code ++ v.code }
 
-abbrev pub listed_behind : List core.StmtTree → Listed → Listed
-listed_behind code l = record l { code = code ++ l.code }
+abbrev pub listed_after : List core.StmtTree → Listed → Listed
+listed_after code l = record l { code = code ++ l.code }

@@ -15,9 +15,9 @@ numbers_of ns = record { meant = ns.meant.items; first_temporary = ns.first_temp
 
 -- a path that begins so, with these steps
 abbrev pub path_of : Place → core.ExprTree → PlainSteps → core.ExprTree
-path_of p first path = core_parts.path_front p (if path.behind_call then core.NullExpr p else first) path.steps.items
+path_of p first path = core_parts.path_front p (if path.after_call then core.NullExpr p else first) path.steps.items
 
 -- one more step, and null for a call
-abbrev pub plain_step_behind : Option Step → core_view.Behind
-plain_step_behind None p before = core.NullExpr p
-plain_step_behind (Some step) p before = core_parts.step_behind step p before
+abbrev pub plain_step_after : Option Step → core_view.Behind
+plain_step_after None p before = core.NullExpr p
+plain_step_after (Some step) p before = core_parts.step_after step p before

@@ -5,7 +5,7 @@ ghost use Rattle.ss_core.specs.declared.names.Place.{Place};
 ghost use Rattle.ss_typed.specs.Tree.{ExprTree};
 ghost use Rattle.ss_typed.specs.View.{expr};
 ghost use Rattle.ss_expand_rules.specs.Calls as calls;
-ghost use Rattle.ss_typed.specs.Parts.{link_behind, linked, step_behind, stepped};
+ghost use Rattle.ss_typed.specs.Parts.{link_after, linked, step_after, stepped};
 
 use ss_typed::{TypedExpr, TypedLink, TypedStep};
 
@@ -58,7 +58,7 @@ pub fn links_have_call(links: &[TypedLink]) -> bool
 /// Whether one stands in the operand of this link.
 #[cycle(calls)]
 pub fn link_has_call(link: &TypedLink) -> bool
-    ensures { (p : Place) → (before : ExprTree) → calls.has_call (link_behind link.now p before) ≡ (calls.has_call before || result) }
+    ensures { (p : Place) → (before : ExprTree) → calls.has_call (link_after link.now p before) ≡ (calls.has_call before || result) }
 {
     match link {
         TypedLink::Operation(_, e) => has_call(e),
@@ -82,7 +82,7 @@ pub fn steps_have_call(steps: &[TypedStep]) -> bool
 /// Whether one stands in this step, or it is a call.
 #[cycle(calls)]
 pub fn step_has_call(step: &TypedStep) -> bool
-    ensures { (p : Place) → (before : ExprTree) → calls.has_call (step_behind step.now p before) ≡ (calls.has_call before || result) }
+    ensures { (p : Place) → (before : ExprTree) → calls.has_call (step_after step.now p before) ≡ (calls.has_call before || result) }
 {
     match step {
         TypedStep::Element(e) => has_call(e),

@@ -7,8 +7,8 @@ ghost use Rattle.ss_core.specs.Parts as core_parts;
 ghost use Rattle.ss_typed.specs.Tree.{ExprTree};
 ghost use Rattle.ss_typed.specs.View as typed;
 ghost use Rattle.ss_expand_rules.specs.Numbers as elab;
-ghost use Rattle.ss_expand_expressions.specs.Views.{numbers_of, plain_step_behind, path_of};
-ghost use Rattle.ss_typed.specs.Parts.{link_behind, linked, step_behind, stepped};
+ghost use Rattle.ss_expand_expressions.specs.Views.{numbers_of, plain_step_after, path_of};
+ghost use Rattle.ss_typed.specs.Parts.{link_after, linked, step_after, stepped};
 
 use crate::locals::Numbers;
 use ss_core::{ClassId, Expr, Link, Place, Quantifier, StateWord, Step};
@@ -150,7 +150,7 @@ pub fn plain_links(
 #[cycle(plain)]
 fn plain_link(alloc: Global, numbers: &Numbers, link: &TypedLink) -> Result<Link, AllocError>
     ensures { IfOk result (λ r. (p : Place) → (before : ExprTree)
-        → core_parts.link_behind r p (elab.plain (numbers_of numbers.now) before) ≡ elab.plain (numbers_of numbers.now) (link_behind link.now p before)) }
+        → core_parts.link_after r p (elab.plain (numbers_of numbers.now) before) ≡ elab.plain (numbers_of numbers.now) (link_after link.now p before)) }
 {
     match link {
         TypedLink::Operation(operator, e) => Ok(Link::Operation(
@@ -162,10 +162,10 @@ fn plain_link(alloc: Global, numbers: &Numbers, link: &TypedLink) -> Result<Link
     }
 }
 
-/// The steps of a path. Where a call stands among them, the path begins with null behind it.
+/// The steps of a path. Where a call stands among them, the path begins with null after it.
 #[derive(Drop)]
 pub struct PlainSteps {
-    pub behind_call: bool,
+    pub after_call: bool,
     pub steps: Vec<Step>,
 }
 
@@ -178,7 +178,7 @@ pub fn whole_path(
 ) -> Result<Expr, AllocError>
     ensures { IfOk result (λ r. core.expr r ≡ path_of place (core.expr first.value) path) }
 {
-    if path.behind_call {
+    if path.after_call {
         return Ok(Expr::Path(place, Box::new(alloc, Expr::Null(place))?, path.steps));
     }
     Ok(Expr::Path(place, first, path.steps))
@@ -195,7 +195,7 @@ pub fn plain_steps(
         → path_of p (elab.plain (numbers_of numbers.now) before) r ≡ elab.plain (numbers_of numbers.now) (stepped p before steps.now)) }
 {
     let mut path = PlainSteps {
-        behind_call: false,
+        after_call: false,
         steps: Vec::new(alloc),
     };
     for step in steps {
@@ -212,7 +212,7 @@ fn plain_step(
     step: &TypedStep,
 ) -> Result<Option<Step>, AllocError>
     ensures { IfOk result (λ r. (p : Place) → (before : ExprTree)
-        → plain_step_behind r p (elab.plain (numbers_of numbers.now) before) ≡ elab.plain (numbers_of numbers.now) (step_behind step.now p before)) }
+        → plain_step_after r p (elab.plain (numbers_of numbers.now) before) ≡ elab.plain (numbers_of numbers.now) (step_after step.now p before)) }
 {
     match step {
         TypedStep::Field(field, _) => Ok(Some(Step::Field(*field))),
@@ -228,19 +228,19 @@ fn longer_path(
     path: PlainSteps,
     step: Option<Step>,
 ) -> Result<PlainSteps, AllocError>
-    ensures { IfOk result (λ r. (p : Place) → (first : tree.ExprTree) → path_of p first r ≡ plain_step_behind step p (path_of p first path)) }
+    ensures { IfOk result (λ r. (p : Place) → (first : tree.ExprTree) → path_of p first r ≡ plain_step_after step p (path_of p first path)) }
 {
     match step {
         Some(step) => {
             let mut steps = path.steps;
             steps.push(step)?;
             Ok(PlainSteps {
-                behind_call: path.behind_call,
+                after_call: path.after_call,
                 steps,
             })
         }
         None => Ok(PlainSteps {
-            behind_call: true,
+            after_call: true,
             steps: Vec::new(alloc),
         }),
     }

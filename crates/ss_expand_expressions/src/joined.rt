@@ -9,9 +9,9 @@ use crate::expressions::whole_chain;
 use ss_core::{ClassId, Expr, FieldId, Link, Operator, Place, Step};
 use std::alloc::{AllocError, Global};
 
-/// A value with one link behind it.
+/// A value with one link after it.
 pub fn with_link(alloc: Global, place: Place, value: Expr, link: Link) -> Result<Expr, AllocError>
-    ensures { IfOk result (λ r. core.expr r ≡ core_parts.link_behind link place (core.expr value)) }
+    ensures { IfOk result (λ r. core.expr r ≡ core_parts.link_after link place (core.expr value)) }
 {
     let mut links = Vec::new(alloc);
     links.push(link)?;
@@ -25,9 +25,9 @@ fn stepped(place: Place, first: Box<Expr>, steps: Vec<Step>) -> Expr
     Expr::Path(place, first, steps)
 }
 
-/// A value with one step behind it.
+/// A value with one step after it.
 pub fn with_step(alloc: Global, place: Place, value: Expr, step: Step) -> Result<Expr, AllocError>
-    ensures { IfOk result (λ r. core.expr r ≡ core_parts.step_behind step place (core.expr value)) }
+    ensures { IfOk result (λ r. core.expr r ≡ core_parts.step_after step place (core.expr value)) }
 {
     let mut steps = Vec::new(alloc);
     steps.push(step)?;

@@ -5,7 +5,7 @@ ghost use Rattle.ss_core.specs.declared.names.Place.{Place};
 ghost use Rattle.ss_typed.specs.Tree.{ExprTree};
 ghost use Rattle.ss_typed.specs.View.{expr};
 ghost use Rattle.ss_expand_rules.specs.Calls as calls;
-ghost use Rattle.ss_typed.specs.Parts.{link_behind};
+ghost use Rattle.ss_typed.specs.Parts.{link_after};
 
 use ss_core::Operator;
 use ss_typed::{TypedExpr, TypedLink};
@@ -49,9 +49,9 @@ pub fn is_lazy(e: &TypedExpr) -> bool
     }
 }
 
-/// Whether an operand with this link behind it is such an operation.
+/// Whether an operand with this link after it is such an operation.
 pub fn is_lazy_link(link: &TypedLink) -> bool
-    ensures { (p : Place) → (before : ExprTree) → calls.is_lazy (link_behind link.now p before) ≡ result }
+    ensures { (p : Place) → (before : ExprTree) → calls.is_lazy (link_after link.now p before) ≡ result }
 {
     match link {
         TypedLink::Operation(operator, _) => is_lazy_operator(*operator),

@@ -7,7 +7,7 @@ ghost use Rattle.ss_core.specs.View as core;
 ghost use Rattle.ss_typed.specs.Tree.{ExprTree};
 ghost use Rattle.ss_expand_rules.specs.Lifting as lifting;
 ghost use Rattle.ss_expand_expressions.specs.Views.{numbers_of};
-ghost use Rattle.ss_expand_expressions.specs.Sources.{source_of, stmts_of, lifted_by, valued_by, valued_behind};
+ghost use Rattle.ss_expand_expressions.specs.Sources.{source_of, stmts_of, lifted_by, valued_by, valued_after};
 ghost use Rattle.ss_expand_expressions.specs.Operands.{IsOperand, IsBegun, IsEnded};
 
 use crate::locals::Numbers;
@@ -38,7 +38,7 @@ pub fn keep(
 ) -> Result<Expr, AllocError>
     ensures { (s : lifting.ElaborationContext) → (e : ExprTree) → (before : List tree.StmtTree) → (types : List Ty)
         → s.numbers ≡ numbers_of numbers.now → IsOperand s e before types code.old made.old operand
-        → IfOk result (λ v. valued_by code.new made.new v ≡ valued_behind before (lifting.operand s.numbers wanted e (lifting.lifted s e) types)) }
+        → IfOk result (λ v. valued_by code.new made.new v ≡ valued_after before (lifting.operand s.numbers wanted e (lifting.lifted s e) types)) }
 {
     if operand.is_lazy && operand.has_call {
         return valued(

@@ -1,4 +1,4 @@
--- What is known along code that stands one behind the other.
+-- What is known along code that stands one after the other.
 use Rattle.std.proofs.Common.{◌≡◌, [], ◌∷◌, ◌++◌, true, Option, Some, None, refl, sym}
 use Rattle.std.proofs.lemmas.Bool.{and_parts, and_from}
 use Rattle.ss_core.specs.Tree.{CodeTree, NoCode, Then}

@@ -26,7 +26,7 @@ use Rattle.ss_resolver_types_heads.specs.Wants.{Want, ABool, AnInt, AReference, 
 use Rattle.ss_resolver_types_heads.specs.Calls.{ExprContext, Called, Taking, Refused, called_owner, called_member, is_wrong_call, argument_wants, whole_call}
 use Rattle.ss_resolver_types_heads.specs.Expressions.{AsValue, BeforeDot, AsCallee, no_class, is_question, condition_faults, is_name, faults, argument_faults}
 use Rattle.ss_resolver_rules.specs.declared.known.Known.TheVariants.{BoundName}
-use Rattle.ss_resolver_rules.specs.Expressions.{first_class, third_class, state_question, owner_question, called_behind, expr, args}
+use Rattle.ss_resolver_rules.specs.Expressions.{first_class, third_class, state_question, owner_question, called_after, expr, args}
 use Rattle.ss_expand_formed.proofs.Facts.{none_left, not_false}
 use Rattle.ss_expand_formed.proofs.Fit.{Context}
 use Rattle.ss_expand_formed.proofs.ExpressionsScopes.{refusing, expr_context, no_fault, three_left, four_left}
@@ -67,7 +67,7 @@ module _ (p : ProgramTree) (x : Context) (static lacks : Bool) (w : Allowed) (re
   owner_named s (BaseOf q) h = absurd (let z : ⊥ = cc in z)
   owner_named s y h = absurd (let z : ⊥ = cc in z)
 
-  level_none : (a : At) (q : Place) (t : Option Ty) (o : ExprTree) (n : List ℕ) (es : Arguments) (k : Callee) → is_question k ≡ true → None_in (called_behind (env_at p a) q (AValue t) o n es (args (env_at p a) es) k) → None_in o
+  level_none : (a : At) (q : Place) (t : Option Ty) (o : ExprTree) (n : List ℕ) (es : Arguments) (k : Callee) → is_question k ≡ true → None_in (called_after (env_at p a) q (AValue t) o n es (args (env_at p a) es) k) → None_in o
   level_none a q t o n es (AWord j) h g = (none_left (unless (allows_state w (state_question n (first_class (env_at p a) es))) q) (misplaced w o) g).1
   level_none a q t o n es (AMethod m) h g = absurd (false≢true h)
   level_none a q t o n es (APrint b) h g = absurd (false≢true h)
@@ -89,7 +89,7 @@ module _ (p : ProgramTree) (x : Context) (static lacks : Bool) (w : Allowed) (re
       by true g = let two = three_left (unless (allows_question w) q) (misplaced w (expr (env_at p a) z)) (misplaced w (expr (env_at p a) v)) g in (two.1, two.2)
       by false g = let two = three_left (unless (allows_question w) q) (misplaced w (expr (env_at p a) z)) (misplaced w (expr (env_at p a) v)) g in (two.1, two.2)
 
-  owner_none : (a : At) (q : Place) (o : ExprTree) (n : List ℕ) (es : Arguments) (k : Callee) → is_question k ≡ true → None_in (called_behind (env_at p a) q TheOwner o n es (args (env_at p a) es) k) → Objects a es
+  owner_none : (a : At) (q : Place) (o : ExprTree) (n : List ℕ) (es : Arguments) (k : Callee) → is_question k ≡ true → None_in (called_after (env_at p a) q TheOwner o n es (args (env_at p a) es) k) → Objects a es
   owner_none a q o n es (AWord j) h g = objects_none a q n es g
   owner_none a q o n es (AMethod m) h g = absurd (false≢true h)
   owner_none a q o n es (APrint b) h g = absurd (false≢true h)
@@ -217,11 +217,11 @@ module _ (p : ProgramTree) (x : Context) (static lacks : Bool) (w : Allowed) (re
       by : (r : Receiver) → receiver (scope_at p a) y (statics.static (scope_at p a) y) ≡ r → faults (A a) BeforeDot y ≡ [] → is_question (member_callee (T a) n.text r) ≡ true →
           is_wrong_call (count es) (called_member (A a) (count es) (known (T a) y) n.text r) ≡ false → argument_faults (A a) (argument_wants (count es) (called_member (A a) (count es) (known (T a) y) n.text r)) es ≡ [] →
           called_faults (U a) n r (before_dot r (expr_faults (U a) y) ++ read_faults (U a) n r) ≡ [] → arguments_faults (U a) (asked_class n.text r) es ≡ [] →
-          None_in (called_behind (env_at p a) q (receiver (scope_at p a) y (statics.static (scope_at p a) y)) (expr (env_at p a) y) n.text es (args (env_at p a) es) (member_callee (scope_at p a) n.text (receiver (scope_at p a) y (statics.static (scope_at p a) y)))) →
+          None_in (called_after (env_at p a) q (receiver (scope_at p a) y (statics.static (scope_at p a) y)) (expr (env_at p a) y) n.text es (args (env_at p a) es) (member_callee (scope_at p a) n.text (receiver (scope_at p a) y (statics.static (scope_at p a) y)))) →
           (has_answer false y && have_answer false es) ≡ true
       by TheConsole e f ask wrong types called names g = absurd (false≢true (sym (never_print (is_print n.text) _) ∙ ask))
       by TheOwner e f ask wrong types called names g =
-          let tree = subst (λ r. None_in (called_behind (env_at p a) q r (expr (env_at p a) y) n.text es (args (env_at p a) es) (member_callee (scope_at p a) n.text r))) e g in
+          let tree = subst (λ r. None_in (called_after (env_at p a) q r (expr (env_at p a) y) n.text es (args (env_at p a) es) (member_callee (scope_at p a) n.text r))) e g in
           let objects = owner_none a q (expr (env_at p a) y) n.text es (member_callee (scope_at p a) n.text TheOwner) ask tree in
           and_from _ _ (owner_named (scope_at p a) y e) (owner_answers a es n.text (not_unless (is_owner_word n.text) n.place called) args_ih wrong types names objects)
       by TheBase e f ask wrong types called names g = absurd (false≢true (sym (never_if (static || is_state_word n.text) false (inherited_method p.classes a.class n.text)) ∙ ask))
@@ -229,7 +229,7 @@ module _ (p : ProgramTree) (x : Context) (static lacks : Bool) (w : Allowed) (re
       by (AValue t) e f ask wrong types called names g =
           let v = value_faults static true lacks (scope_at p a) y t e f in
           let left = none_left (expr_faults (U a) y) (read_faults (U a) n (AValue t)) called in
-          let tree = subst (λ r. None_in (called_behind (env_at p a) q r (expr (env_at p a) y) n.text es (args (env_at p a) es) (member_callee (scope_at p a) n.text r))) e g in
+          let tree = subst (λ r. None_in (called_after (env_at p a) q r (expr (env_at p a) y) n.text es (args (env_at p a) es) (member_callee (scope_at p a) n.text r))) e g in
           let none = level_none a q t (expr (env_at p a) y) n.text es (member_callee (scope_at p a) n.text (AValue t)) ask tree in
           let call = question_of t (is_state_call n.text) (is_state_read n.text) (statics.method_at p.classes n.text (option_and_then declared_place (option_and_then class_of t))) (never_at n.text (option_and_then declared_place (option_and_then class_of t))) ask in
           and_from _ _ (ih left.0 v.0 none) (level_answers a es (is_state_read n.text) (is_state_call n.text) (not (has_no_value (T a) y) && statics.may_have_levels (statics.static (T a) y)) _ wrong call types)

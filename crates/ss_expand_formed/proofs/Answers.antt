@@ -28,7 +28,7 @@ use Rattle.ss_resolver_types_heads.specs.Calls.{ExprContext, Called, Taking, Ref
 use Rattle.ss_resolver_types_heads.specs.Expressions.{AsValue, BeforeDot, AsCallee, used_member, is_wrong_read, is_no_read, reads_method, is_method_name, is_question, condition_faults, is_name, argument, faults, argument_faults, no_class}
 use Rattle.ss_resolver_rules.specs.declared.known.Known.TheVariants.{BoundName}
 use Rattle.ss_resolver_rules.specs.Numbers.{class_in}
-use Rattle.ss_resolver_rules.specs.Expressions.{read_field, field_behind, state_word, member, third_class, owner_question, called_behind, expr, args}
+use Rattle.ss_resolver_rules.specs.Expressions.{read_field, field_after, state_word, member, third_class, owner_question, called_after, expr, args}
 use Rattle.ss_expand_formed.proofs.Facts.{none_left, or_false, not_false}
 use Rattle.ss_expand_formed.proofs.Fit.{Context}
 use Rattle.ss_expand_formed.proofs.ExpressionsScopes.{refusing, expr_context, no_fault, three_left, four_left}
@@ -97,9 +97,9 @@ module _ (w : Allowed) where
   kept_behind b q k o h = (none_left (unless b q) (misplaced w o) h).1
 
   module _ (p : ProgramTree) (a : At) where
-    behind_field : (q : Place) (o : ExprTree) (n : List ℕ) (k : Option ℕ) → ((j : ℕ) → k ≡ Some j → (f : Declared FieldTree) × (field_of p.classes j n ≡ Some f)) → misplaced w (field_behind (env_at p a) q o n k) ≡ [] → misplaced w o ≡ []
-    behind_field q o n None there h = h
-    behind_field q o n (Some j) there h = let f = there j refl in subst (λ (d : Option (Declared FieldTree)). misplaced w (read_field (env_at p a) q o d) ≡ []) f.1 h
+    after_field : (q : Place) (o : ExprTree) (n : List ℕ) (k : Option ℕ) → ((j : ℕ) → k ≡ Some j → (f : Declared FieldTree) × (field_of p.classes j n ≡ Some f)) → misplaced w (field_after (env_at p a) q o n k) ≡ [] → misplaced w o ≡ []
+    after_field q o n None there h = h
+    after_field q o n (Some j) there h = let f = there j refl in subst (λ (d : Option (Declared FieldTree)). misplaced w (read_field (env_at p a) q o d) ≡ []) f.1 h
 
     field_named : (n : List ℕ) (t : Option Ty) (j : ℕ) → declared_place (class_in t) ≡ Some j → is_array_number (class_in t) ≡ false → has_member p.classes n (option_and_then class_of t) ≡ true → reads_method p.classes n (option_and_then class_of t) ≡ false →
         (f : Declared FieldTree) × (field_of p.classes j n ≡ Some f)
@@ -121,10 +121,10 @@ module _ (w : Allowed) where
         ⊎_elim
         (λ yes. kept_behind (allows_state w (state_word n)) q (state_word n) o (rw yes at h))
         (λ other.
-        let g : misplaced w (if is_array_number (class_in t) then LengthOf q o else field_behind (env_at p a) q o n (declared_place (class_in t))) ≡ [] = rw other at h in
+        let g : misplaced w (if is_array_number (class_in t) then LengthOf q o else field_after (env_at p a) q o n (declared_place (class_in t))) ≡ [] = rw other at h in
         ⊎_elim
         (λ array. rw array at g)
-        (λ object. behind_field q o n (declared_place (class_in t)) (λ j e. field_named n t j e object (has other) (none other)) (rw object at g))
+        (λ object. after_field q o n (declared_place (class_in t)) (λ j e. field_named n t j e object (has other) (none other)) (rw object at g))
         (cases_Bool (is_array_number (class_in t))))
         (cases_Bool (is_state_read n))
 
@@ -322,17 +322,17 @@ module _ (p : ProgramTree) (x : Context) (static lacks : Bool) (w : Allowed) (wi
           let word = not_unless (is_owner_word n.text) n.place called in
           let callee_is : member_callee (scope_at p a) n.text TheOwner ≡ AWord (statics.owner_count n.text) = rw word refl in
           let tree : expr (env_at p a) (CallOf q (MemberOf m y n) es) ≡ owner_question (env_at p a) q n.text es (args (env_at p a) es) =
-          ap (λ r. called_behind (env_at p a) q r (expr (env_at p a) y) n.text es (args (env_at p a) es) (member_callee (scope_at p a) n.text r)) e
-          ∙ ap (called_behind (env_at p a) q TheOwner (expr (env_at p a) y) n.text es (args (env_at p a) es)) callee_is in
+          ap (λ r. called_after (env_at p a) q r (expr (env_at p a) y) n.text es (args (env_at p a) es) (member_callee (scope_at p a) n.text r)) e
+          ∙ ap (called_after (env_at p a) q TheOwner (expr (env_at p a) y) n.text es (args (env_at p a) es)) callee_is in
           and_from _ _ (owner_answers (scope_at p a) y (statics.static (scope_at p a) y) e) (owner_asked a q n.text es rest word names wrong_call types (subst (λ z. misplaced w z ≡ []) tree k))
       by (AValue t) e f ask wrong_call types called names k =
           let v = value_faults static true lacks (scope_at p a) y t e f in
           let left = none_left (expr_faults (U a) y) (read_faults (U a) n (AValue t)) called in
           let level = never_level t (is_state_call n.text) (is_state_read n.text) (method_at p.classes n.text (option_and_then declared_place (option_and_then class_of t))) ask (never_at p.classes n.text (option_and_then declared_place (option_and_then class_of t))) in
           let c = word_asked (member_callee (scope_at p a) n.text (AValue t)) ask in
-          let tree : expr (env_at p a) (CallOf q (MemberOf m y n) es) ≡ called_behind (env_at p a) q (AValue t) (expr (env_at p a) y) n.text es (args (env_at p a) es) (AWord c.0) =
-          ap (λ r. called_behind (env_at p a) q r (expr (env_at p a) y) n.text es (args (env_at p a) es) (member_callee (scope_at p a) n.text r)) e
-          ∙ ap (called_behind (env_at p a) q (AValue t) (expr (env_at p a) y) n.text es (args (env_at p a) es)) c.1 in
+          let tree : expr (env_at p a) (CallOf q (MemberOf m y n) es) ≡ called_after (env_at p a) q (AValue t) (expr (env_at p a) y) n.text es (args (env_at p a) es) (AWord c.0) =
+          ap (λ r. called_after (env_at p a) q r (expr (env_at p a) y) n.text es (args (env_at p a) es) (member_callee (scope_at p a) n.text r)) e
+          ∙ ap (called_after (env_at p a) q (AValue t) (expr (env_at p a) y) n.text es (args (env_at p a) es)) c.1 in
           and_from _ _ (ih left.0 v.0 (none_left _ (misplaced w (expr (env_at p a) y)) (subst (λ z. misplaced w z ≡ []) tree k)).1)
           (levels_asked a es y (is_state_read n.text) (is_state_call n.text) _ level wrong_call types)
 

@@ -54,7 +54,7 @@ apart_filter test (n ∷ ns) h =
     (λ other. rw other rest)
     (cases_Bool (test n))
 
--- behind others of which they are none
+-- after others of which they are none
 apart_append : (xs ys : List (List ℕ)) → AreApart xs → AreApart ys → ((i j : ℕ) (n : List ℕ) → slice_get xs i ≡ Some n → slice_get ys j ≡ Some n → ⊥) → AreApart (xs ++ ys)
 apart_append [] ys hx hy other = hy
 apart_append (x ∷ xs) ys hx hy other =
@@ -93,11 +93,11 @@ not_again t before (x ∷ ns) h l (suc i) n e same =
     let both = none_left (twice before x) (twice_among (with_name before x.text) ns) h in
     not_again t (with_name before x.text) ns both.1 (still t before x.text l) i n e same
 
-behind_names : (before : List (List ℕ)) (xs ys : List NameTree) → twice_among before (xs ++ ys) ≡ [] → (now : List (List ℕ)) × (twice_among now ys ≡ [])
-behind_names before [] ys h = (before, h)
-behind_names before (x ∷ xs) ys h =
+after_names : (before : List (List ℕ)) (xs ys : List NameTree) → twice_among before (xs ++ ys) ≡ [] → (now : List (List ℕ)) × (twice_among now ys ≡ [])
+after_names before [] ys h = (before, h)
+after_names before (x ∷ xs) ys h =
     let both = none_left (twice before x) (twice_among (with_name before x.text) (xs ++ ys)) h in
-    behind_names (with_name before x.text) xs ys both.1
+    after_names (with_name before x.text) xs ys both.1
 
 place_behind : {X : Type 0} (xs ys : List X) (i : ℕ) (x : X) → slice_get ys i ≡ Some x → (k : ℕ) × (slice_get (xs ++ ys) k ≡ Some x)
 place_behind [] ys i x h = (i, h)
@@ -107,16 +107,16 @@ place_behind (z ∷ xs) ys i x h = let r = place_behind xs ys i x h in (suc r.0,
 abbrev HasName : List ℕ → List NameTree → Type 0
 HasName x ns = (k : ℕ) × (n : NameTree) × (slice_get ns k ≡ Some n) × (n.text ≡ x)
 
-behind_kind : (xs ys : List NameTree) (x : List ℕ) → HasName x ys → HasName x (xs ++ ys)
-behind_kind xs ys x r = let q = place_behind xs ys r.0 r.1 r.2 in (q.0, r.1, q.1, r.3)
+after_kind : (xs ys : List NameTree) (x : List ℕ) → HasName x ys → HasName x (xs ++ ys)
+after_kind xs ys x r = let q = place_behind xs ys r.0 r.1 r.2 in (q.0, r.1, q.1, r.3)
 
 kind_named : (attributes : List NameTree) (words : List Modifier) (kind : MemberKindTree) (ms : List MemberTree) (x : List ℕ) → ((i : ℕ) → slice_get (method_names ms) i ≡ Some x → HasName x (member_names ms)) →
     (i : ℕ) → slice_get (map (λ (m : MethodTree). m.name.text) (methods_of_kind attributes words kind ++ methods_in ms)) i ≡ Some x → HasName x (kind_names kind ++ member_names ms)
-kind_named attributes words (FieldsOf d) ms x rest i h = behind_kind (kind_names (FieldsOf d)) (member_names ms) x (rest i h)
+kind_named attributes words (FieldsOf d) ms x rest i h = after_kind (kind_names (FieldsOf d)) (member_names ms) x (rest i h)
 kind_named attributes words (InvariantOf e) ms x rest i h = rest i h
 kind_named attributes words (ConstructorOf n ps base cs b) ms x rest i h = rest i h
 kind_named attributes words (MethodOf r n ps cs b) ms x rest zero h = (0, n, refl, same_Some _ _ h)
-kind_named attributes words (MethodOf r n ps cs b) ms x rest (suc i) h = behind_kind (n ∷ []) (member_names ms) x (rest i h)
+kind_named attributes words (MethodOf r n ps cs b) ms x rest (suc i) h = after_kind (n ∷ []) (member_names ms) x (rest i h)
 
 method_named : (ms : List MemberTree) (x : List ℕ) (i : ℕ) → slice_get (method_names ms) i ≡ Some x → HasName x (member_names ms)
 method_named [] x i h = absurd (let z : ⊥ = cc in z)
@@ -124,7 +124,7 @@ method_named (m ∷ ms) x i h = kind_named m.attributes m.modifiers m.kind ms x 
 
 kind_apart : (attributes : List NameTree) (words : List Modifier) (kind : MemberKindTree) (before : List (List ℕ)) (ms : List MemberTree) → ((now : List (List ℕ)) → twice_among now (member_names ms) ≡ [] → AreApart (method_names ms)) →
     twice_among before (kind_names kind ++ member_names ms) ≡ [] → AreApart (map (λ (m : MethodTree). m.name.text) (methods_of_kind attributes words kind ++ methods_in ms))
-kind_apart attributes words (FieldsOf d) before ms rest h = let r = behind_names before (kind_names (FieldsOf d)) (member_names ms) h in rest r.0 r.1
+kind_apart attributes words (FieldsOf d) before ms rest h = let r = after_names before (kind_names (FieldsOf d)) (member_names ms) h in rest r.0 r.1
 kind_apart attributes words (InvariantOf e) before ms rest h = rest before h
 kind_apart attributes words (ConstructorOf n ps base cs b) before ms rest h = rest before h
 kind_apart attributes words (MethodOf r n ps cs b) before ms rest h =

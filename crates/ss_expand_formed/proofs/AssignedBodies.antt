@@ -21,7 +21,7 @@ use Rattle.ss_expand_rules.specs.Numbers.{number}
 use Rattle.ss_expand_rules.specs.Contracts.{first_param}
 use Rattle.ss_expand_rules.specs.Lifting.{Pure, Called}
 use Rattle.ss_paths.specs.Opening.{is_first}
-use Rattle.ss_expand_rules.specs.Constructors.{before_all, initialize, initializers_from, initializers_in, behind_initial, base_alone, with_base, constructor_stmts}
+use Rattle.ss_expand_rules.specs.Constructors.{before_all, initialize, initializers_from, initializers_in, after_initial, base_alone, with_base, constructor_stmts}
 use Rattle.ss_typed.specs.Shapes.{closing_brace, in_block, has_base}
 use Rattle.ss_expand_rules.specs.Bodies.{block_assigns, this_meant, meant_from, first_copy, meant, numbers, copying_from, copying, with_return, statements, elaboration_context, code_with, temporary_count, written_body, own_params, wrapper_result, returned, first_of_wrapper, wrapper_body, param_of}
 use Rattle.ss_store_rules.specs.Locals.{this_types, types_of, local_types, argument_count, is_argument}
@@ -62,17 +62,17 @@ module _ (own : ℕ → Bool) where
   in_block_read m (BlockOf q ss end) h = h
 
   module _ (p : TypedTree) where
-    behind_read : (m : May) (t : ℕ) (b : BodyTree) (ss : StmtTrees) → all_read own m ss ≡ true → all_read own m (behind_initial p t (base_alone b) ss) ≡ true
-    behind_read m t b typed.NoMore h = refl
-    behind_read m t b (Before x xs) h =
+    after_read : (m : May) (t : ℕ) (b : BodyTree) (ss : StmtTrees) → all_read own m ss ≡ true → all_read own m (after_initial p t (base_alone b) ss) ≡ true
+    after_read m t b typed.NoMore h = refl
+    after_read m t b (Before x xs) h =
         let both = and_parts (stmt_reads own m x) (all_read own (behind m x) xs) h in
-        on_either (λ (z : StmtTrees). all_read own m z ≡ true) (is_first p t x) (Before x (behind_initial p t (base_alone b) xs)) (Before (base_alone b) (Before x xs)) (and_from _ _ both.0 (behind_read (behind m x) t b xs both.1)) h
+        on_either (λ (z : StmtTrees). all_read own m z ≡ true) (is_first p t x) (Before x (after_initial p t (base_alone b) xs)) (Before (base_alone b) (Before x xs)) (and_from _ _ both.0 (after_read (behind m x) t b xs both.1)) h
 
     with_base_read : (m : May) (b : BodyTree) (base : Option BaseTree) → base_read m base ≡ true → (ss : StmtTrees) → all_read own m ss ≡ true → all_read own m (with_base p b base ss) ≡ true
     with_base_read m b (Some base) g ss h = and_from _ _ g h
     with_base_read m b None g ss h =
-        on_either (λ (z : StmtTrees). all_read own m z ≡ true) (has_base ss) ss (if b.flags.delayed then Before (base_alone b) ss else behind_initial p b.class (base_alone b) ss) h
-        (on_either (λ (z : StmtTrees). all_read own m z ≡ true) b.flags.delayed (Before (base_alone b) ss) (behind_initial p b.class (base_alone b) ss) h (behind_read m b.class b ss h))
+        on_either (λ (z : StmtTrees). all_read own m z ≡ true) (has_base ss) ss (if b.flags.delayed then Before (base_alone b) ss else after_initial p b.class (base_alone b) ss) h
+        (on_either (λ (z : StmtTrees). all_read own m z ≡ true) b.flags.delayed (Before (base_alone b) ss) (after_initial p b.class (base_alone b) ss) h (after_read m b.class b ss h))
 
     abbrev may_members : Option MembersTree → Bool
     may_members None = true
@@ -84,20 +84,20 @@ module _ (own : ℕ → Bool) where
     members_found (c ∷ cs) zero h = (and_parts (members_read c) (list_all members_read cs) h).0
     members_found (c ∷ cs) (suc i) h = members_found cs i (and_parts (members_read c) (list_all members_read cs) h).1
 
-    module _ (m : May) (this : m.this ≡ true) (more : StmtTrees) (behind_them : all_read own m more ≡ true) where
+    module _ (m : May) (this : m.this ≡ true) (more : StmtTrees) (after_them : all_read own m more ≡ true) where
       one_read : (t n : ℕ) (f : typed.FieldTree) (e : Option ExprTree) → may_read in_class e ≡ true → (d : Option DeclaredField) (rest : StmtTrees) → all_read own m (before_all rest more) ≡ true → all_read own m (before_all (initialize t n f e d rest) more) ≡ true
       one_read t n f None g d rest h = h
       one_read t n f (Some e) g None rest h = h
       one_read t n f (Some e) g (Some d) rest h = and_from _ _ (and_from _ _ this (reads_wider in_class m (in_class_wider m this) e g)) h
 
       fields_read : (t n : ℕ) (fs : List typed.FieldTree) → list_all (λ (f : typed.FieldTree). may_read in_class f.initial) fs ≡ true → all_read own m (before_all (initializers_from p t n fs) more) ≡ true
-      fields_read t n [] h = behind_them
+      fields_read t n [] h = after_them
       fields_read t n (f ∷ fs) h =
           let both = and_parts (may_read in_class f.initial) (list_all (λ (z : typed.FieldTree). may_read in_class z.initial) fs) h in
           one_read t n f f.initial both.0 (field_at p n) (initializers_from p t (n + 1) fs) (fields_read t (n + 1) fs both.1)
 
       initial_read : (t : ℕ) (c : Option MembersTree) → may_members c ≡ true → all_read own m (before_all (initializers_in p t c) more) ≡ true
-      initial_read t None h = behind_them
+      initial_read t None h = after_them
       initial_read t (Some c) h = fields_read t _ c.fields h
 
     statements_read : (m : May) (b : BodyTree) → list_all members_read p.members ≡ true → (b.flags.ctor ≡ true → m.this ≡ true) → base_read m b.base ≡ true → block_reads own m b.block ≡ true → all_read own m (statements p b) ≡ true
@@ -183,7 +183,7 @@ module _ (y : core.BodyTree) (block : BlockTree) where
 abbrev pub may_of : BodyTree → May
 may_of b = record { this = not b.flags.is_static; result = false; locals = λ x. nat_lt x (arguments b) }
 
--- a local that it declares stands behind its arguments
+-- a local that it declares stands after its arguments
 abbrev pub own_of : BodyTree → ℕ → Bool
 own_of b x = nat_le (arguments b) x
 

@@ -15,7 +15,7 @@ use Rattle.ss_ast.specs.Statements as written
 use Rattle.ss_ast.specs.Programs.{ParamTree}
 use Rattle.ss_tables.specs.Types.{written_type}
 use Rattle.ss_tables.specs.Scopes as scopes
-use Rattle.ss_tables.specs.Scopes.{Local, Locals, Scope, declare_local, behind_init}
+use Rattle.ss_tables.specs.Scopes.{Local, Locals, Scope, declare_local, after_init}
 use Rattle.ss_tables.specs.Named.{named_in, with_named}
 use Rattle.ss_tables.specs.Statics.{Receiver, TheConsole, TheOwner, TheBase, AClass, AValue, receiver, static, count}
 use Rattle.ss_typed.specs.Tree.{ExprTree, DeclaratorTree, StmtTree, DeclareOf, InitTree, DeclareFirst, SimpleFirst}
@@ -92,19 +92,19 @@ all_match e t (d ∷ ds) h = all_match (declare e t d.name) t ds (declare_match 
 past_match : (e : Env) (ds : List rules.Declared) → Match e → Match (past e ds)
 past_match e ds h = record { inner = h.inner; outer = h.outer }
 
-behind_match : (e : Env) (x : written.StmtTree) → Match e → Match (behind e x)
-behind_match e (written.DeclareOf d) h = all_match e d.ty d.declarators h
-behind_match e (written.InBlock b) h = past_match e (declared_in_block b) h
-behind_match e (written.SimpleOf x) h = h
-behind_match e (written.IfOf p c a) h = past_match e (declared_in a) h
-behind_match e (written.IfElseOf p c a b) h = past_match e (declared_in a ++ declared_in b) h
-behind_match e (written.WhileOf p c es a) h = past_match e (declared_in a) h
-behind_match e (written.ForOf p i c x es a) h = past_match e (declared_first i ++ declared_in a) h
-behind_match e (written.ReturnOf p c) h = h
-behind_match e (written.AssertOf p c) h = h
-behind_match e (written.AssumeOf p c) h = h
-behind_match e (written.ExposeOf p c n b) h = past_match e (declared_in_block b) h
-behind_match e (written.EmptyOf p) h = h
+after_match : (e : Env) (x : written.StmtTree) → Match e → Match (behind e x)
+after_match e (written.DeclareOf d) h = all_match e d.ty d.declarators h
+after_match e (written.InBlock b) h = past_match e (declared_in_block b) h
+after_match e (written.SimpleOf x) h = h
+after_match e (written.IfOf p c a) h = past_match e (declared_in a) h
+after_match e (written.IfElseOf p c a b) h = past_match e (declared_in a ++ declared_in b) h
+after_match e (written.WhileOf p c es a) h = past_match e (declared_in a) h
+after_match e (written.ForOf p i c x es a) h = past_match e (declared_first i ++ declared_in a) h
+after_match e (written.ReturnOf p c) h = h
+after_match e (written.AssertOf p c) h = h
+after_match e (written.AssumeOf p c) h = h
+after_match e (written.ExposeOf p c n b) h = past_match e (declared_in_block b) h
+after_match e (written.EmptyOf p) h = h
 
 first_match : (e : Env) (i : Option written.ForInitTree) → Match e → Match (behind_first e i)
 first_match e None h = h
@@ -117,21 +117,21 @@ module _ (f : Scope → Scope) (keeps : (s : Scope) (t : TypeTree) (x : NameTree
   all_scope e t [] = refl
   all_scope e t (d ∷ ds) = ap (λ s. scopes.declare_all s t ds) (keeps e.scope t d.name) ∙ all_scope (declare e t d.name) t ds
 
-  behind_scope : (e : Env) (x : written.StmtTree) → scopes.behind (f e.scope) x ≡ f (behind e x).scope
-  behind_scope e (written.DeclareOf d) = all_scope e d.ty d.declarators
-  behind_scope e (written.InBlock b) = refl
-  behind_scope e (written.SimpleOf x) = refl
-  behind_scope e (written.IfOf p c a) = refl
-  behind_scope e (written.IfElseOf p c a b) = refl
-  behind_scope e (written.WhileOf p c es a) = refl
-  behind_scope e (written.ForOf p i c x es a) = refl
-  behind_scope e (written.ReturnOf p c) = refl
-  behind_scope e (written.AssertOf p c) = refl
-  behind_scope e (written.AssumeOf p c) = refl
-  behind_scope e (written.ExposeOf p c n b) = refl
-  behind_scope e (written.EmptyOf p) = refl
+  after_scope : (e : Env) (x : written.StmtTree) → scopes.behind (f e.scope) x ≡ f (behind e x).scope
+  after_scope e (written.DeclareOf d) = all_scope e d.ty d.declarators
+  after_scope e (written.InBlock b) = refl
+  after_scope e (written.SimpleOf x) = refl
+  after_scope e (written.IfOf p c a) = refl
+  after_scope e (written.IfElseOf p c a b) = refl
+  after_scope e (written.WhileOf p c es a) = refl
+  after_scope e (written.ForOf p i c x es a) = refl
+  after_scope e (written.ReturnOf p c) = refl
+  after_scope e (written.AssertOf p c) = refl
+  after_scope e (written.AssumeOf p c) = refl
+  after_scope e (written.ExposeOf p c n b) = refl
+  after_scope e (written.EmptyOf p) = refl
 
-  first_scope : (e : Env) (i : Option written.ForInitTree) → behind_init (f e.scope) i ≡ f (behind_first e i).scope
+  first_scope : (e : Env) (i : Option written.ForInitTree) → after_init (f e.scope) i ≡ f (behind_first e i).scope
   first_scope e None = refl
   first_scope e (Some (written.DeclareFirst d)) = all_scope e d.ty d.declarators
   first_scope e (Some (written.SimpleFirst x)) = refl
@@ -143,9 +143,9 @@ declared_quiet : (ds : List DeclaratorTree) → with_declared quiet ds ≡ quiet
 declared_quiet [] = refl
 declared_quiet (d ∷ ds) = declared_quiet ds
 
-behind_quiet : (x : StmtTree) → reading.behind quiet x ≡ quiet
-behind_quiet (DeclareOf ds) = declared_quiet ds
-behind_quiet x = refl
+after_quiet : (x : StmtTree) → reading.behind quiet x ≡ quiet
+after_quiet (DeclareOf ds) = declared_quiet ds
+after_quiet x = refl
 
 begun_quiet : (i : Option InitTree) → with_begun quiet i ≡ quiet
 begun_quiet None = refl
@@ -365,7 +365,7 @@ module _ (r : Option Ty) (outcome : Outcome) where
         let f = behind e x in
         let both = none_left (types.stmt_faults body (refusing e.scope) x) (types.stmts_faults body (scopes.behind (refusing e.scope) x) xs) h in
         let found = none_left (names.stmt_faults (plainly r false e.scope) x) (names.stmts_faults (scopes.behind (plainly r false e.scope) x) xs) n in
-        let later = subst (λ s. types.stmts_faults body s xs ≡ []) (behind_scope refusing (λ s t q. refl) e x) both.1 in
-        let later_names = subst (λ s. names.stmts_faults s xs ≡ []) (behind_scope (plainly r false) (λ s t q. refl) e x) found.1 in
+        let later = subst (λ s. types.stmts_faults body s xs ≡ []) (after_scope refusing (λ s t q. refl) e x) both.1 in
+        let later_names = subst (λ s. names.stmts_faults s xs ≡ []) (after_scope (plainly r false) (λ s t q. refl) e x) found.1 in
         and_from _ _ (stmt_quiet e match x both.0 found.0)
-        (subst (λ k. all_read any k (stmts f xs) ≡ true) (sym (behind_quiet (stmt e x))) (stmts_quiet f (behind_match e x match) xs later later_names))
+        (subst (λ k. all_read any k (stmts f xs) ≡ true) (sym (after_quiet (stmt e x))) (stmts_quiet f (after_match e x match) xs later later_names))

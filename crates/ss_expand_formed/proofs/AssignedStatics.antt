@@ -26,7 +26,7 @@ use Rattle.ss_resolver_rules.specs.Names.{Env, known, enter, within}
 use Rattle.ss_resolver_rules.specs.declared.known.Known.{Known}
 use Rattle.ss_resolver_rules.specs.declared.known.Known.TheVariants.{Variable, BoundName}
 use Rattle.ss_resolver_rules.specs.Numbers.{class_in}
-use Rattle.ss_resolver_rules.specs.Expressions.{this, read_field, known_or_field, third_class, owner_question, called_behind, called_bare, expr, args}
+use Rattle.ss_resolver_rules.specs.Expressions.{this, read_field, known_or_field, third_class, owner_question, called_after, called_bare, expr, args}
 use Rattle.ss_resolver_types_heads.specs.Faults.{bad_type, fault_where}
 use Rattle.ss_resolver_types_heads.specs.Wants.{Want, AnInt, ABool, AReference, AnArray, AnyValue, OfType, Printable, OfDeclared, OfClass, ClassName, Known as Value, known as value_of, wrong}
 use Rattle.ss_resolver_types_heads.specs.Calls.{ExprContext, Called, Taking, Refused, Unknown, param_wants, constructed, taking, method_or_field, called_on_class, called_method, called_name, called_owner, called_on_declared, called_on_object, class_of_known, has_no_members, asks_level, called_value, called_member, wants_of, is_wrong_call, argument_wants, whole_call}
@@ -194,7 +194,7 @@ within_argument a (OfClass d) x fs i h = (none_left fs (wrong a.scope (OfClass d
 within_argument a Printable x fs i h = absurd (false≢true i)
 within_argument a ClassName x fs i h = absurd (false≢true i)
 
--- the first want, where there is one, and those behind it
+-- the first want, where there is one, and those after it
 abbrev head_plain : List Want → Bool
 head_plain [] = true
 head_plain (w ∷ ws) = is_plain w
@@ -332,23 +332,23 @@ module _ (r : Option Ty) (lacks : Bool) where
   method_takes cs None = refl
   method_takes cs (Some m) = on_either takes_plain (not (is_static m.member)) Refused (Taking (param_wants cs m.member.params)) refl (params_plain cs m.member.params)
 
-  -- ---- calls behind a dot
+  -- ---- calls after a dot
 
   record Behind (e : Env) (p : Place) (o : ExprTree) (n : List ℕ) (es : Arguments) (t : Receiver) : Type 0 where
     same : member_callee (refusing e.scope) n t ≡ member_callee e.scope n t
-    is_quiet : reads quiet (called_behind e p t o n es (args e es) (member_callee e.scope n t)) ≡ true
+    is_quiet : reads quiet (called_after e p t o n es (args e es) (member_callee e.scope n t)) ≡ true
 
-  print_quiet : (e : Env) (p : Place) (o : ExprTree) (n : List ℕ) (es : Arguments) (is line : Bool) → is ≡ true → reads quiet (called_behind e p TheConsole o n es (args e es) (if is then APrint line else NoCallee)) ≡ true
+  print_quiet : (e : Env) (p : Place) (o : ExprTree) (n : List ℕ) (es : Arguments) (is line : Bool) → is ≡ true → reads quiet (called_after e p TheConsole o n es (args e es) (if is then APrint line else NoCallee)) ≡ true
   print_quiet e p o n es true line h = refl
   print_quiet e p o n es false line h = absurd (false≢true h)
 
-  owner_quiet : (e : Env) (p : Place) (o : ExprTree) (n : List ℕ) (es : Arguments) (is : Bool) (k : ℕ) → is ≡ true → reads quiet (owner_question e p n es (args e es)) ≡ true → reads quiet (called_behind e p TheOwner o n es (args e es) (if is then AWord k else NoCallee)) ≡ true
+  owner_quiet : (e : Env) (p : Place) (o : ExprTree) (n : List ℕ) (es : Arguments) (is : Bool) (k : ℕ) → is ≡ true → reads quiet (owner_question e p n es (args e es)) ≡ true → reads quiet (called_after e p TheOwner o n es (args e es) (if is then AWord k else NoCallee)) ≡ true
   owner_quiet e p o n es true k h g = g
   owner_quiet e p o n es false k h g = absurd (false≢true h)
 
   level_quiet : (e : Env) (p : Place) (o : ExprTree) (n : List ℕ) (es : Arguments) (t : Option Ty) (is : Bool) (other : Callee) → is ≡ true → may_have_levels t ≡ true → reads quiet o ≡ true →
-      reads quiet (called_behind e p (AValue t) o n es (args e es) (if is then level_callee t else other)) ≡ true
-  level_quiet e p o n es t true other h i g = subst (λ k. reads quiet (called_behind e p (AValue t) o n es (args e es) k) ≡ true) (sym (level_word t i).1) g
+      reads quiet (called_after e p (AValue t) o n es (args e es) (if is then level_callee t else other)) ≡ true
+  level_quiet e p o n es t true other h i g = subst (λ k. reads quiet (called_after e p (AValue t) o n es (args e es) k) ≡ true) (sym (level_word t i).1) g
   level_quiet e p o n es t false other h i g = absurd (false≢true h)
 
   owner_wants : (n : List ℕ) → (head_plain (wants_of (called_owner n)) ≡ true) × (head_plain (others (wants_of (called_owner n))) ≡ true)
@@ -383,18 +383,18 @@ module _ (r : Option Ty) (lacks : Bool) where
   front_wants : (k : ℕ) (c : Called) → (head_plain (wants_of c) ≡ true) × (head_plain (others (wants_of c)) ≡ true) → (head_plain (argument_wants k c) ≡ true) × (head_plain (others (argument_wants k c)) ≡ true)
   front_wants k c h = on_either (λ (ws : List Want). (head_plain ws ≡ true) × (head_plain (others ws) ≡ true)) (is_wrong_call k c) [] (wants_of c) (refl, refl) h
 
-  behind_quiet : (e : Env) (p : Place) (o : ExprTree) (n : List ℕ) (es : Arguments) (c : Bool) (v : Value) (t : Receiver) → HasType t v.ty → (is_word t ≡ false → reads quiet o ≡ true) → called_word n t ≡ true → Claims e es →
+  after_quiet : (e : Env) (p : Place) (o : ExprTree) (n : List ℕ) (es : Arguments) (c : Bool) (v : Value) (t : Receiver) → HasType t v.ty → (is_word t ≡ false → reads quiet o ≡ true) → called_word n t ≡ true → Claims e es →
       is_wrong_call (count es) (called_member (expr_context e.scope c) (count es) v n t) ≡ false →
       argument_faults (expr_context e.scope c) (argument_wants (count es) (called_member (expr_context e.scope c) (count es) v n t)) es ≡ [] → args_words (plainly e.scope) es ≡ true → Behind e p o n es t
-  behind_quiet e p o n es c v TheConsole of_type is word claims right h w = record { same = refl; is_quiet = print_quiet e p o n es (is_print n) _ word }
-  behind_quiet e p o n es c v TheOwner of_type is word claims right h w =
+  after_quiet e p o n es c v TheConsole of_type is word claims right h w = record { same = refl; is_quiet = print_quiet e p o n es (is_print n) _ word }
+  after_quiet e p o n es c v TheOwner of_type is word claims right h w =
       let front = front_wants (count es) (called_owner n) (owner_wants n) in
       record { same = refl; is_quiet = owner_quiet e p o n es (is_owner_word n) (owner_count n) word (front_quiet e c p n es (argument_wants (count es) (called_owner n)) front.0 front.1 es claims h w) }
-  behind_quiet e p o n es c v TheBase of_type is word claims right h w = absurd (false≢true (sym right))
-  behind_quiet e p o n es c v (AClass k) of_type is word claims right h w =
+  after_quiet e p o n es c v TheBase of_type is word claims right h w = absurd (false≢true (sym right))
+  after_quiet e p o n es c v (AClass k) of_type is word claims right h w =
       let wants = argument_plain (count es) (called_member (expr_context e.scope c) (count es) v n (AClass k)) (class_takes e.scope.classes k n) in
       record { same = refl; is_quiet = called_reads quiet e p (AClass k) o n es (args e es) (member_callee e.scope n (AClass k)) (is refl) (args_quiet e c _ wants es claims h w) }
-  behind_quiet e p o n es c v (AValue t) of_type is word claims right h w = record {
+  after_quiet e p o n es c v (AValue t) of_type is word claims right h w = record {
     same = refl;
     is_quiet =
         ⊎_elim
@@ -446,11 +446,11 @@ module _ (r : Option Ty) (lacks : Bool) where
       let given = subst (λ z. argument_faults a (argument_wants k (called_member a k v n.text z)) es ≡ []) d.same rest.1 in
       let of_type = subst (λ z. HasType z v.ty) d.same (receiver_type (refusing s) x (static (refusing s) x)) in
       let word = sym (same_word n.text s true r None (static s x) x) ∙ named_words.0 in
-      let b = behind_quiet e p (expr e x) n.text es c v u of_type d.is_quiet word claims fits given words.1 in
+      let b = after_quiet e p (expr e x) n.text es c v u of_type d.is_quiet word claims fits given words.1 in
       record { is_quiet = b.is_quiet; same = ap (λ z. call_type s.classes (called_with k z)) (ap (member_callee (refusing s) n.text) d.same ∙ b.same) }
   call_quiet e match p es claims f callee_claim c h w = record { is_quiet = refl; same = refl }
 
-  -- the arguments of a call behind a dot are what it wants
+  -- the arguments of a call after a dot are what it wants
   pub call_given : (e : Env) → Match e → (p q : Place) (x : text.ExprTree) (n : NameTree) (es : Arguments) → Claim e x → (c : Bool) → faults (expr_context e.scope c) AsValue (text.CallOf p (text.MemberOf q x n) es) ≡ [] →
       calls_words (plainly e.scope) (text.CallOf p (text.MemberOf q x n) es) ≡ true →
       argument_faults (expr_context e.scope c) (argument_wants (count es) (called_member (expr_context e.scope c) (count es) (value_of (refusing e.scope) x) n.text (receiver e.scope x (static e.scope x)))) es ≡ []

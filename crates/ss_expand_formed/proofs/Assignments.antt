@@ -1,4 +1,4 @@
--- What is known behind assignments.
+-- What is known after assignments.
 use Rattle.std.proofs.Common.{◌≡◌, ℕ, ◌-◌, [], ◌∷◌, ◌++◌, Bool, true, false, Option, Some, None, refl, sym, ◌∙◌, ap, arith}
 use Rattle.std.specs.Prelude.{not, ◌==◌, ◌&&◌, ◌||◌, if◌then◌else◌, is_some, nat_le, nat_lt}
 use Rattle.std.proofs.lemmas.Bool.{and_parts, and_from, or_left, or_right, eq-eqb, eqb-true, ne_eqb, leb-true, false≢true}
@@ -49,7 +49,7 @@ same_field n f g h i e =
     let d = eqb-true (f - n.first) (g - n.first) e in
     eq-eqb g f (omega arith)
 
--- a field that has its value behind an assignment had it before, or it is the one on the left
+-- a field that has its value after an assignment had it before, or it is the one on the left
 assigned_has : {P : Type 0} (n : Numbers) (a : Assigned) (o : ExprTree) (f g : ℕ) → (has_field n a g ≡ true → P) → (is_this o ≡ true → (g == f) ≡ true → P) →
     (b : Bool) → (is_this o && is_among n f) ≡ b → has_field n (record a { own = if b then put (f - n.first) true a.own else a.own }) g ≡ true → P
 assigned_has n a o f g old new false e h = old h

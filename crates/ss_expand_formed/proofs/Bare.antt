@@ -16,7 +16,7 @@ use Rattle.ss_resolver_rules.specs.Numbers.{class_in}
 use Rattle.ss_resolver_rules.specs.Names.{Env, known, within}
 use Rattle.ss_resolver_rules.specs.declared.known.Known.{Known}
 use Rattle.ss_resolver_rules.specs.declared.known.Known.TheVariants.{Variable, BoundName}
-use Rattle.ss_resolver_rules.specs.Expressions.{this, read_field, known_or_field, field_behind, member, expr, call, args}
+use Rattle.ss_resolver_rules.specs.Expressions.{this, read_field, known_or_field, field_after, member, expr, call, args}
 use Rattle.ss_expand_formed.proofs.OwnReads.{is_asked, called_asked}
 
 -- No local is named. What a call or a word of conditions holds isn't looked at.
@@ -85,12 +85,12 @@ bare_if : (b : Bool) (x y : ExprTree) → is_bare x ≡ true → is_bare y ≡ t
 bare_if true x y h g = h
 bare_if false x y h g = g
 
-behind_bare : (e : Env) (p : Place) (o : ExprTree) (n : List ℕ) (k : Option ℕ) → is_bare o ≡ true → is_bare (field_behind e p o n k) ≡ true
-behind_bare e p o n None h = h
-behind_bare e p o n (Some k) h = field_bare e p o (field_of e.scope.classes k n) h
+after_bare : (e : Env) (p : Place) (o : ExprTree) (n : List ℕ) (k : Option ℕ) → is_bare o ≡ true → is_bare (field_after e p o n k) ≡ true
+after_bare e p o n None h = h
+after_bare e p o n (Some k) h = field_bare e p o (field_of e.scope.classes k n) h
 
 member_bare : (e : Env) (p : Place) (o : ExprTree) (n : List ℕ) (t : ℕ) → is_bare o ≡ true → is_bare (member e p o n t) ≡ true
-member_bare e p o n t h = bare_if (is_state_read n) _ _ refl (bare_if (is_array_number t) _ _ h (behind_bare e p o n (declared_place t) h))
+member_bare e p o n t h = bare_if (is_state_read n) _ _ refl (bare_if (is_array_number t) _ _ h (after_bare e p o n (declared_place t) h))
 
 pub expr_bare : (e : Env) (a : text.ExprTree) → HasNoLocal e → is_bare (expr e a) ≡ true
 expr_bare e (text.NameOf p n) none = name_bare e p n (known e n) (none n)

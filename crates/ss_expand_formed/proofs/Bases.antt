@@ -5,7 +5,7 @@ use Rattle.std.proofs.lemmas.Bool.{cases_Bool, or_right, false≢true}
 use Rattle.ss_core.specs.declared.names.Place.{Place}
 use Rattle.ss_ast.specs.Expressions as text
 use Rattle.ss_ast.specs.Statements as written
-use Rattle.ss_tables.specs.Scopes.{Scope, enter, behind, behind_init}
+use Rattle.ss_tables.specs.Scopes.{Scope, enter, behind, after_init}
 use Rattle.ss_tables.specs.Statics.{Receiver, TheConsole, TheOwner, TheBase, AClass, AValue, receiver, static, count}
 use Rattle.ss_typed.specs.Tree.{ExprTree, Arguments, SimpleTree, BaseCallOf, StmtTree, SimpleOf, StmtTrees, NoMore, Before}
 use Rattle.ss_typed.specs.Shapes.{has_base, is_base}
@@ -40,12 +40,12 @@ print_free : (e : Env) (p : Place) (line : Bool) (es : text.Arguments) → Free 
 print_free e p line text.NoMore = refl
 print_free e p line (text.Argument a es) = printed_free e p line a
 
-behind_free : (e : Env) (p : Place) (n : List ℕ) (es : text.Arguments) (r : Receiver) (whole : ExprTree) → Free (call_alone e p n es r whole)
-behind_free e p n es TheConsole whole = print_free e p (is_line n) es
-behind_free e p n es TheOwner whole = refl
-behind_free e p n es TheBase whole = refl
-behind_free e p n es (AClass k) whole = refl
-behind_free e p n es (AValue t) whole = refl
+after_free : (e : Env) (p : Place) (n : List ℕ) (es : text.Arguments) (r : Receiver) (whole : ExprTree) → Free (call_alone e p n es r whole)
+after_free e p n es TheConsole whole = print_free e p (is_line n) es
+after_free e p n es TheOwner whole = refl
+after_free e p n es TheBase whole = refl
+after_free e p n es (AClass k) whole = refl
+after_free e p n es (AValue t) whole = refl
 
 -- `base(..)` in its place is no call of another kind
 refused : (a : ExprContext) (p q : Place) (es : text.Arguments) → faults a AsValue (text.CallOf p (text.BaseOf q) es) ≡ [] → ⊥
@@ -57,7 +57,7 @@ refused a p q es h =
 
 alone_free : (a : ExprContext) (e : Env) (x : text.ExprTree) → faults a AsValue x ≡ [] → Free (alone e x)
 alone_free a e (text.CallOf p (text.BaseOf q) es) h = absurd (refused a p q es h)
-alone_free a e (text.CallOf p (text.MemberOf q c n) es) h = behind_free e p n.text es (receiver e.scope c (static e.scope c)) (expr e (text.CallOf p (text.MemberOf q c n) es))
+alone_free a e (text.CallOf p (text.MemberOf q c n) es) h = after_free e p n.text es (receiver e.scope c (static e.scope c)) (expr e (text.CallOf p (text.MemberOf q c n) es))
 alone_free a e x h = refl
 
 simple_free : (a : ExprContext) (e : Env) (x : written.SimpleTree) → simple_faults a x ≡ [] → Free (simple e x)
@@ -89,7 +89,7 @@ mutual
   stmt_free b s e (written.WhileOf p c es x) h =
       (tt, any_all (map (expr e) es), stmt_free b (enter s) (names.enter e) x (none_left (test b s c ++ conditions b s es) (stmt_faults b (enter s) x) h).1)
   stmt_free b s e (written.ForOf p i c x es y) h =
-      let t = behind_init (enter s) i in
+      let t = after_init (enter s) i in
       let inner = behind_first (names.enter e) i in
       let last = none_left (init_faults b (enter s) i ++ test_faults b t c ++ step_faults b t x ++ conditions b t es) (stmt_faults b (enter t) y) h in
       let three = none_left (init_faults b (enter s) i ++ test_faults b t c ++ step_faults b t x) (conditions b t es) last.0 in
@@ -119,7 +119,7 @@ OnlySimple NoMore = Unit {0}
 OnlySimple (Before (SimpleOf x) ss) = Free x × OnlySimple ss
 OnlySimple (Before s ss) = ⊥
 
--- one `base(..)` among the outermost statements, with only simple ones before it and none behind
+-- one `base(..)` among the outermost statements, with only simple ones before it and none after
 pub record Splits (ss : StmtTrees) : Type 0 where
   pub front : StmtTrees
   pub place : Place
@@ -187,7 +187,7 @@ further k s e x xs none h go_on =
     inl (here, no_more_first k (behind s x) (rules.behind e x) xs rest))
     (cases_Bool (is_first_assignment k s x))
 
--- either there is none, or one, behind simple statements
+-- either there is none, or one, after simple statements
 pub none_or_one : (k : ℕ) (s : Scope) (e : Env) (xs : written.StmtTrees) → constructor_stmts k s true xs ≡ [] → Either (stmts e xs)
 none_or_one k s e written.NoMore h = inl tt
 none_or_one k s e (written.Before (written.SimpleOf (written.AloneOf (text.CallOf p (text.BaseOf q) es))) xs) h =

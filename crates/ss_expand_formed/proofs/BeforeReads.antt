@@ -22,7 +22,7 @@ use Rattle.ss_resolver_types_heads.specs.Wants.{known}
 use Rattle.ss_resolver_types_heads.specs.Calls.{ExprContext, has_no_members}
 use Rattle.ss_resolver_types_heads.specs.Expressions.{AsValue, BeforeDot, used_member, is_wrong_read, is_method_name, reads_method, faults}
 use Rattle.ss_resolver_rules.specs.Numbers.{class_in}
-use Rattle.ss_resolver_rules.specs.Expressions.{read_field, field_behind, state_word, expr}
+use Rattle.ss_resolver_rules.specs.Expressions.{read_field, field_after, state_word, expr}
 use Rattle.ss_expand_formed.proofs.Facts.{none_left, or_false}
 use Rattle.ss_expand_formed.proofs.Fit.{Context}
 use Rattle.ss_expand_formed.proofs.ExpressionsScopes.{refusing, expr_context, no_fault, three_left}
@@ -43,7 +43,7 @@ module _ (p : ProgramTree) (x : Context) (static condition lacks : Bool) (w : Al
   abbrev None_in : ExprTree → Type 0
   None_in e = misplaced w e ≡ []
 
-  field_none : (a : At) (q : Place) (o : ExprTree) (n : List ℕ) (k : Option ℕ) → is_method_name p.classes n k ≡ false → (k ≡ None) ⊎ (declares p.classes n k ≡ true) → None_in (field_behind (env_at p a) q o n k) → None_in o
+  field_none : (a : At) (q : Place) (o : ExprTree) (n : List ℕ) (k : Option ℕ) → is_method_name p.classes n k ≡ false → (k ≡ None) ⊎ (declares p.classes n k ≡ true) → None_in (field_after (env_at p a) q o n k) → None_in o
   field_none a q o n None m d h = h
   field_none a q o n (Some k) m d h = by (field_of p.classes k n) m (⊎_elim (λ e. absurd (let z : ⊥ = cc in z)) (λ e. e) d) h
     where
@@ -52,7 +52,7 @@ module _ (p : ProgramTree) (x : Context) (static condition lacks : Bool) (w : Al
       by None i j g = absurd (false≢true (sym i ∙ j))
 
   member_none : (a : At) (q : Place) (o : ExprTree) (n : List ℕ) (b : Bool) (t : Option Ty) → is_state_read n ≡ b → (b ≡ false → reads_method p.classes n (option_and_then class_of t) ≡ false) → (b ≡ false → has_member p.classes n (option_and_then class_of t) ≡ true) →
-      None_in (if b then StateOf q (state_word n) o else if is_array_number (class_in t) then LengthOf q o else field_behind (env_at p a) q o n (declared_place (class_in t))) → None_in o
+      None_in (if b then StateOf q (state_word n) o else if is_array_number (class_in t) then LengthOf q o else field_after (env_at p a) q o n (declared_place (class_in t))) → None_in o
   member_none a q o n true t e m d h = (none_left (unless (allows_state w (state_word n)) q) (misplaced w o) h).1
   member_none a q o n false None e m d h = h
   member_none a q o n false (Some ty.Int) e m d h = h
@@ -60,7 +60,7 @@ module _ (p : ProgramTree) (x : Context) (static condition lacks : Bool) (w : Al
   member_none a q o n false (Some ty.Null) e m d h = h
   member_none a q o n false (Some (ty.Ref c k)) e m d h = by (is_array_number c.0) (d refl) h
     where
-      by : (i : Bool) → (if i then is_length n else declares p.classes n (declared_place c.0)) ≡ true → None_in (if i then LengthOf q o else field_behind (env_at p a) q o n (declared_place c.0)) → None_in o
+      by : (i : Bool) → (if i then is_length n else declares p.classes n (declared_place c.0)) ≡ true → None_in (if i then LengthOf q o else field_after (env_at p a) q o n (declared_place c.0)) → None_in o
       by true g z = z
       by false g z = field_none a q o n (declared_place c.0) (m refl) (inr g) z
 

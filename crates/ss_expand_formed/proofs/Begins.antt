@@ -13,7 +13,7 @@ use Rattle.ss_delayed_rules.specs.Constructors.{arguments_of}
 use Rattle.ss_expand_rules.specs.Program.{field_at}
 use Rattle.ss_typed.specs.Lookups.{members_of}
 use Rattle.ss_typed.specs.Shapes.{is_this, mentions_this, has_base, in_block}
-use Rattle.ss_expand_rules.specs.Constructors.{before_all, initialize, initializers_from, initializers_in, initializers, behind_initial, base_alone, with_base, constructor_stmts}
+use Rattle.ss_expand_rules.specs.Constructors.{before_all, initialize, initializers_from, initializers_in, initializers, after_initial, base_alone, with_base, constructor_stmts}
 use Rattle.ss_expand_formed.proofs.Choices.{where_chosen}
 use Rattle.ss_expand_formed.proofs.ConstructionStatements.{Along}
 use Rattle.ss_expand_formed.proofs.Free.{Anything}
@@ -21,7 +21,7 @@ use Rattle.ss_expand_formed.proofs.Bases.{Free, OnlySimple, Splits, behind_other
 use Rattle.ss_expand_formed.proofs.Numbering.{is_declared_in}
 use Rattle.ss_expand_formed.proofs.OwnFields.{is_own, OnlyOwn}
 
--- The statements have only simple ones before one `base(..)`, and none behind it. In a constructor that isn't delayed those before it are these.
+-- The statements have only simple ones before one `base(..)`, and none after it. In a constructor that isn't delayed those before it are these.
 -- In a delayed one these stand before the block's own, which are none or begin the block.
 pub record Begins (p : TypedTree) (b : BodyTree) (early : StmtTrees) (args : Arguments) (outset inner ss : StmtTrees) : Type 0 where
   pub front : StmtTrees
@@ -69,22 +69,22 @@ initial_simple p t own (SimpleOf (AssignOf (FieldOf q o f u) operator.Set e)) h 
 initial_simple p t own (SimpleOf (AssignOf l operator.Set e)) h = absurd (false≢true h)
 initial_simple p t own s h = absurd (false≢true h)
 
--- behind the statements with which the block begins
-behind_run : (p : TypedTree) (b : BodyTree) → b.flags.delayed ≡ false → Owned p b.class → (q : Place) (es : Arguments) (ss : StmtTrees) → Along Free Anything ss → (inner : StmtTrees) → Begins p b (first_run p b.class ss) es NoMore inner (behind_initial p b.class (SimpleOf (BaseCallOf q es)) ss)
-behind_run p b early owned q es NoMore h inner = record { front = NoMore; place = q; given = es; rest = NoMore; is = refl; simple = tt; free = tt; own = tt; as_early = λ d. refl; as_given = refl; as_late = λ d. absurd (false≢true (sym early ∙ d)) }
-behind_run p b early owned q es (Before x xs) h inner =
+-- after the statements with which the block begins
+after_run : (p : TypedTree) (b : BodyTree) → b.flags.delayed ≡ false → Owned p b.class → (q : Place) (es : Arguments) (ss : StmtTrees) → Along Free Anything ss → (inner : StmtTrees) → Begins p b (first_run p b.class ss) es NoMore inner (after_initial p b.class (SimpleOf (BaseCallOf q es)) ss)
+after_run p b early owned q es NoMore h inner = record { front = NoMore; place = q; given = es; rest = NoMore; is = refl; simple = tt; free = tt; own = tt; as_early = λ d. refl; as_given = refl; as_late = λ d. absurd (false≢true (sym early ∙ d)) }
+after_run p b early owned q es (Before x xs) h inner =
     let s = SimpleOf (BaseCallOf q es) in
     let t = b.class in
-    where_chosen (Begins p b (first_run p t (Before x xs)) es NoMore inner) (is_first p t x) (Before x (behind_initial p t s xs)) (Before s (Before x xs))
+    where_chosen (Begins p b (first_run p t (Before x xs)) es NoMore inner) (is_first p t x) (Before x (after_initial p t s xs)) (Before s (Before x xs))
     (λ yes.
     let y = initial_simple p t owned x yes in
-    let r = behind_run p b early owned q es xs h.1 inner in
+    let r = after_run p b early owned q es xs h.1 inner in
     record {
       front = Before (SimpleOf y.0) r.front;
       place = r.place;
       given = r.given;
       rest = r.rest;
-      is = ap (λ z. Before z (behind_initial p t s xs)) y.1 ∙ ap (Before (SimpleOf y.0)) r.is;
+      is = ap (λ z. Before z (after_initial p t s xs)) y.1 ∙ ap (Before (SimpleOf y.0)) r.is;
       simple = (y.2, r.simple);
       free = r.free;
       own = (y.3, r.own);
@@ -121,10 +121,10 @@ with_base_begins p b owned (Some base) ss split owns whole = record { front = No
 with_base_begins p b owned None ss split owns whole =
     ⊎_elim
     (λ free.
-    let chosen : Begins p b (first_run p b.class ss) typed.Arguments.NoMore NoMore ss (if b.flags.delayed then Before (base_alone b) ss else behind_initial p b.class (base_alone b) ss) =
-    where_chosen (Begins p b (first_run p b.class ss) typed.Arguments.NoMore NoMore ss) b.flags.delayed (Before (base_alone b) ss) (behind_initial p b.class (base_alone b) ss)
+    let chosen : Begins p b (first_run p b.class ss) typed.Arguments.NoMore NoMore ss (if b.flags.delayed then Before (base_alone b) ss else after_initial p b.class (base_alone b) ss) =
+    where_chosen (Begins p b (first_run p b.class ss) typed.Arguments.NoMore NoMore ss) b.flags.delayed (Before (base_alone b) ss) (after_initial p b.class (base_alone b) ss)
     (λ yes. record { front = NoMore; place = b.place; given = typed.Arguments.NoMore; rest = ss; is = refl; simple = tt; free = free; own = tt; as_early = λ d. absurd (false≢true (sym d ∙ yes)); as_given = refl; as_late = λ d. (NoMore, refl, inl (refl, refl)) })
-    (λ other. behind_run p b other owned b.place typed.Arguments.NoMore ss free ss) in
+    (λ other. after_run p b other owned b.place typed.Arguments.NoMore ss free ss) in
     let none = none_found ss free in
     rw (none, not_in ss free) chosen)
     (λ r.

@@ -20,14 +20,14 @@ pub record FromList {A B : Type 0} (f : A → Option B) (xs : List A) (y : B) : 
   pub there : slice_get xs place ≡ Some was
   pub becomes : f was ≡ Some y
 
-from_behind : {A B : Type 0} (f : A → Option B) (x : A) (xs : List A) (y : B) → FromList f xs y → FromList f (x ∷ xs) y
-from_behind f x xs y w = record { place = suc w.place; was = w.was; there = w.there; becomes = w.becomes }
+from_after : {A B : Type 0} (f : A → Option B) (x : A) (xs : List A) (y : B) → FromList f xs y → FromList f (x ∷ xs) y
+from_after f x xs y w = record { place = suc w.place; was = w.was; there = w.there; becomes = w.becomes }
 
 from_front : {A B : Type 0} (f : A → Option B) (x : A) (xs : List A) (y : B) → ((n : ℕ) → slice_get (filter_map f xs) n ≡ Some y → FromList f xs y) →
     (o : Option B) → f x ≡ o → (n : ℕ) → slice_get (cons_option o (filter_map f xs)) n ≡ Some y → FromList f (x ∷ xs) y
-from_front f x xs y rest None e n h = from_behind f x xs y (rest n h)
+from_front f x xs y rest None e n h = from_after f x xs y (rest n h)
 from_front f x xs y rest (Some z) e zero h = record { place = 0; was = x; there = refl; becomes = e ∙ h }
-from_front f x xs y rest (Some z) e (suc n) h = from_behind f x xs y (rest n h)
+from_front f x xs y rest (Some z) e (suc n) h = from_after f x xs y (rest n h)
 
 pub of_filter_map : {A B : Type 0} (f : A → Option B) (xs : List A) (n : ℕ) (y : B) → slice_get (filter_map f xs) n ≡ Some y → FromList f xs y
 of_filter_map f [] n y h = absurd (let x : ⊥ = cc in x)

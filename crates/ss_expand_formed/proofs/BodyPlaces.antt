@@ -44,7 +44,7 @@ use Rattle.ss_expand_formed.proofs.ExpressionsBodies.{IsMethod, IsConstructor}
 pub there_in_front : {X : Type 0} (xs ys : List X) (i : ℕ) (x : X) → slice_get xs i ≡ Some x → slice_get (xs ++ ys) i ≡ Some x
 there_in_front xs ys i x h = at_front xs ys i (slice_get_within xs i x h) ∙ h
 
--- a parameter behind `this`
+-- a parameter after `this`
 at_param : (s : Bool) (t : Ty) (ps ls : List Ty) (i : ℕ) (u : Ty) → slice_get ps i ≡ Some u → slice_get (((if s then [] else t ∷ []) ++ ps) ++ ls) ((if s then 0 else 1) + i) ≡ Some u
 at_param true t ps ls i u h = let e : 0 + i ≡ i = omega arith in rw e (there_in_front ps ls i u h)
 at_param false t ps ls i u h = let e : 1 + i ≡ suc i = omega arith in ap (slice_get ((t ∷ ps) ++ ls)) e ∙ there_in_front ps ls i u h

@@ -22,7 +22,7 @@ use Rattle.ss_resolver_types_heads.specs.Wants.{Want, known}
 use Rattle.ss_resolver_types_heads.specs.Calls.{ExprContext, Called, Refused, Unknown, method_or_field, called_on_class, called_base, called_member, called_name, argument_wants, is_wrong_call, whole_call}
 use Rattle.ss_resolver_types_heads.specs.Expressions.{AsValue, BeforeDot, AsCallee, is_question, condition_faults, faults, faults_as, argument_faults}
 use Rattle.ss_resolver_rules.specs.Numbers.{number_or_object}
-use Rattle.ss_resolver_rules.specs.Expressions.{base_call, called_behind, expr, args}
+use Rattle.ss_resolver_rules.specs.Expressions.{base_call, called_after, expr, args}
 use Rattle.ss_resolver_rules.specs.Programs.{resolved}
 use Rattle.ss_expand_rules.specs.Program as program
 use Rattle.ss_expand_formed.proofs.Facts.{none_left, or_false}
@@ -37,7 +37,7 @@ use Rattle.ss_expand_formed.proofs.Questions.{Sounds, want}
 use Rattle.ss_expand_formed.proofs.Methods.{method_has}
 use Rattle.ss_expand_formed.proofs.CallsSound.{class_there, base_is, new_fits, new_array_fits}
 use Rattle.ss_expand_formed.proofs.CallCases.{taken, bare_sound}
-use Rattle.ss_expand_formed.proofs.CallsBehind.{meant, kind_called, not_static, console_sound, class_sound}
+use Rattle.ss_expand_formed.proofs.CallsAfter.{meant, kind_called, not_static, console_sound, class_sound}
 use Rattle.ss_expand_formed.proofs.CallsFit.{value_sound}
 use Rattle.ss_expand_formed.proofs.ExpressionsSources.{Before, Calls, sound, args_sound}
 
@@ -54,7 +54,7 @@ inherited_from cs k n m h = by (above cs k) refl h
     by None e g = absurd (let z : None ≡ Some m = sym (nothing_above cs n (length cs)) ∙ g in let w : ⊥ = cc in w)
     by (Some j) e g = (j, e, g)
 
--- a state word behind a dot has arguments of its own
+-- a state word after a dot has arguments of its own
 pub asks_none : (n : List ℕ) (r : Receiver) → is_state_call n ≡ false → (r ≡ TheOwner → ⊥) → asked_class n r ≡ None
 asks_none n TheConsole h other = refl
 asks_none n TheOwner h other = absurd (other refl)
@@ -100,8 +100,8 @@ module _ (p : ProgramTree) (faultless : program_faults p ≡ []) (x : Context) (
       let over : program.above_of (resolved p) x.class ≡ class_number j.0 = ap (program.above_of (resolved p)) here.in_class ∙ ap chain.above_of (class_at p a.class here_class.0 here_class.1) ∙ ap number_or_object j.1 in
       base_is p faultless x is_known_there static lacks answer a here q (MemberOf m y n) es j.0 w.method has (not_static w.method.member w.kind_is) (here.in_static none.0) over
       (ap (member_callee (scope_at p a) n.text) r ∙ callee_is) (ap (member_callee (T a) n.text) rt ∙ callee_in) t.0
-      (ap (λ k. called_behind (env_at p a) q k (expr (env_at p a) y) n.text es (args (env_at p a) es) (member_callee (scope_at p a) n.text k)) r
-      ∙ ap (called_behind (env_at p a) q TheBase (expr (env_at p a) y) n.text es (args (env_at p a) es)) callee_is
+      (ap (λ k. called_after (env_at p a) q k (expr (env_at p a) y) n.text es (args (env_at p a) es) (member_callee (scope_at p a) n.text k)) r
+      ∙ ap (called_after (env_at p a) q TheBase (expr (env_at p a) y) n.text es (args (env_at p a) es)) callee_is
       ∙ ap (base_call (env_at p a) q (args (env_at p a) es) w.method) j.1)
       t.1
 

@@ -24,7 +24,7 @@ use Rattle.ss_expand_formed.proofs.Fit.{Context}
 use Rattle.ss_expand_formed.proofs.ExpressionsScopes.{refusing, expr_context}
 use Rattle.ss_expand_formed.proofs.ExpressionsPlaces.{At, scope_at, IsKnown, IsPlace, static_at, Sound}
 use Rattle.ss_expand_formed.proofs.Questions.{Sounds}
-use Rattle.ss_expand_formed.proofs.CallsBehind.{value_by}
+use Rattle.ss_expand_formed.proofs.CallsAfter.{value_by}
 
 module _ (p : ProgramTree) (faultless : program_faults p ≡ []) (x : Context) (is_known : IsKnown p x) (static lacks answer : Bool) (a : At) (here : IsPlace p x static lacks answer a) where
   abbrev A : ExprContext

@@ -12,7 +12,7 @@ use Rattle.ss_expand_rules.specs.Program.{above_of, Constructor, number_of}
 use Rattle.ss_typed.specs.Lookups.{constructor_of, param_types_in}
 use Rattle.ss_expand_rules.specs.Lifting.{ElaborationContext, Listed, arguments_of}
 use Rattle.ss_expand_rules.specs.Code.{Coded}
-use Rattle.ss_expand_rules.specs.Simple.{has_delayed_constructor, ready_behind, base_with, base_of, simple}
+use Rattle.ss_expand_rules.specs.Simple.{has_delayed_constructor, ready_after, base_with, base_of, simple}
 use Rattle.ss_expand_rules.specs.Statements.{stmts}
 use Rattle.ss_expand_rules.specs.Constructors.{before_all}
 use Rattle.ss_typed.specs.Shapes.{closing_brace}
@@ -35,7 +35,7 @@ copies_pass test block low h copy x (q ∷ qs) =
     (λ yes. and_from _ _ (h q.place copy x) (rest (copy + 1)))
     (λ other. rest copy)
 
--- ---- statements one behind the other
+-- ---- statements one after the other
 
 -- simple statements are passed
 pub simple_first : (s : ElaborationContext) (front more : StmtTrees) (made : List Ty) → OnlySimple front → (stmts s (before_all front more) made).code ≡ (stmts s front made).code ++ (stmts s more (stmts s front made).made).code
@@ -61,7 +61,7 @@ given s t es made = arguments_of s (param_types_in (constructor_of s.program t))
 abbrev pub lifted_given : ElaborationContext → ℕ → Arguments → List Ty → Code
 lifted_given s t es made = if t == 0 then [] else (given s t es made).code
 
-ready_is : (s : ElaborationContext) (p : Place) (t : ℕ) → ready_behind s p t ≡ ready_where (readies s t) p
+ready_is : (s : ElaborationContext) (p : Place) (t : ℕ) → ready_after s p t ≡ ready_where (readies s t) p
 ready_is s p t = by s.body.flags.delayed (has_delayed_constructor s.program t)
   where
     by : (a b : Bool) → (if a then [] else if b then ReadyStmt p ∷ [] else []) ≡ ready_where (not a && b) p
@@ -73,8 +73,8 @@ base_is : (s : ElaborationContext) (p : Place) (es : Arguments) (t : ℕ) (made 
     (base_of s p es t made).code ≡ lifted_given s t es made ++ (base_where (calls s t) p (number_of s.program (Constructor t)) (given s t es made).values ++ ready_where (readies s t) p)
 base_is s p es t made = by (t == 0) ∙ ap (λ r. lifted_given s t es made ++ (base_where (calls s t) p (number_of s.program (Constructor t)) (given s t es made).values ++ r)) (ready_is s p t)
   where
-    by : (b : Bool) → (if b then record { code = ready_behind s p t; made = made } else base_with s p t (given s t es made)).code
-        ≡ (if b then [] else (given s t es made).code) ++ (base_where (not b) p (number_of s.program (Constructor t)) (given s t es made).values ++ ready_behind s p t)
+    by : (b : Bool) → (if b then record { code = ready_after s p t; made = made } else base_with s p t (given s t es made)).code
+        ≡ (if b then [] else (given s t es made).code) ++ (base_where (not b) p (number_of s.program (Constructor t)) (given s t es made).values ++ ready_after s p t)
     by true = refl
     by false = refl
 

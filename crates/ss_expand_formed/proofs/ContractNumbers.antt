@@ -80,8 +80,8 @@ module _ (P : TypedTree) (b : BodyTree) (bs : List BodyTree) where
   before_result : (y : ℕ) → y < result_number Y → is_result Y y ≡ false
   before_result y l = no_result b.result y (result_number Y) (λ s e. omega arith)
 
-  behind_result : (n : ℕ) → is_result Y ((contract_numbers P b).first_bound + n) ≡ false
-  behind_result n =
+  after_result : (n : ℕ) → is_result Y ((contract_numbers P b).first_bound + n) ≡ false
+  after_result n =
       no_result b.result ((contract_numbers P b).first_bound + n) (result_number Y)
       (λ some same.
       let size = length-append front (option_to_list b.result) in
@@ -94,5 +94,5 @@ module _ (P : TypedTree) (b : BodyTree) (bs : List BodyTree) where
   contract_apart = record {
     locals = λ y t h. before_result y (context_short y t h);
     this = λ t h. before_result 0 (context_short 0 t h);
-    bound = behind_result;
+    bound = after_result;
   }

@@ -19,7 +19,7 @@ use Rattle.ss_expand_rules.specs.Bodies.{results, param_of, temporaries_from, co
 use Rattle.ss_store_rules.specs.Locals.{types_of, argument_count, this_types}
 use Rattle.ss_store_rules.specs.Tables.{no_place, normal_default, captures, StandsFor}
 use Rattle.ss_expand_formed.proofs.Locals.{have_numbers}
-use Rattle.ss_expand_formed.proofs.Readings.{contract_reads, behind_params}
+use Rattle.ss_expand_formed.proofs.Readings.{contract_reads, after_params}
 use Rattle.ss_expand_formed.proofs.Normal.{HasContract, settled, normal_defaults, normal_terms, entry_normal, exit_normal, terms_of_normal}
 use Rattle.ss_expand_formed.proofs.Headings.{SameHeading}
 
@@ -29,7 +29,7 @@ this_length : (static : Bool) (t : Ty) → length (if static then [] else t ∷ 
 this_length true t = refl
 this_length false t = refl
 
-arguments_are : (y : core.BodyTree) (b : BodyTree) → y.params ≡ map param_of b.params → y.flags.is_static ≡ b.flags.is_static → argument_count y ≡ behind_params b
+arguments_are : (y : core.BodyTree) (b : BodyTree) → y.params ≡ map param_of b.params → y.flags.is_static ≡ b.flags.is_static → argument_count y ≡ after_params b
 arguments_are y b params static =
     let one = length-append (this_types y) (types_of y.params) in
     let two = this_length y.flags.is_static (ty.Ref (record { 0 = y.class }) true) in
@@ -47,15 +47,15 @@ written_contract p b bs =
     let y = written_body p b bs in
     let size = arguments_are y b refl refl in
     let numbers = contract_numbers p b in
-    let outcome : numbers.outcome ≡ behind_params b + length y.locals = sym (have_numbers p b bs).outcome ∙ ap (λ k. k + length y.locals) size in
+    let outcome : numbers.outcome ≡ after_params b + length y.locals = sym (have_numbers p b bs).outcome ∙ ap (λ k. k + length y.locals) size in
     record { params = refl; result = refl; static = refl; pure = refl; numbers = numbers; place = b.place; size = size; meant = refl; outcome = outcome; bound = ap (λ k. k + results b.result) outcome; entry = refl; exit = refl; named = refl }
 
 pub wrapper_contract : (p : TypedTree) (q : Place) (t m : ℕ) (b : BodyTree) (bs : List BodyTree) → b.flags.is_static ≡ false → b.flags.pure ≡ false → HasContract (wrapper_body p q t m b bs) b t bs
 wrapper_contract p q t m b bs instance impure =
     let y = wrapper_body p q t m b bs in
     let size = arguments_are y b refl (sym instance) in
-    let first : first_of_wrapper b ≡ behind_params b = ap (λ (s : Bool). (if s then 0 else 1) + length b.params) (sym instance) in
-    let outcome : (wrapper_numbers b t).outcome ≡ behind_params b + length y.locals = ap (λ k. k + length (wrapper_types t b.result)) first ∙ ap (λ k. behind_params b + k) (sym (temporaries_length 0 (wrapper_types t b.result))) in
+    let first : first_of_wrapper b ≡ after_params b = ap (λ (s : Bool). (if s then 0 else 1) + length b.params) (sym instance) in
+    let outcome : (wrapper_numbers b t).outcome ≡ after_params b + length y.locals = ap (λ k. k + length (wrapper_types t b.result)) first ∙ ap (λ k. after_params b + k) (sym (temporaries_length 0 (wrapper_types t b.result))) in
     record { params = refl; result = refl; static = sym instance; pure = sym impure; numbers = wrapper_numbers b t; place = q; size = size; meant = refl; outcome = outcome; bound = ap (λ k. k + results b.result) outcome; entry = refl; exit = refl; named = refl }
 
 -- ---- default contracts of methods of one heading
@@ -107,16 +107,16 @@ module _ (b c : BodyTree) (same : SameHeading b c) where
   first_alike : first_param b ≡ first_param c
   first_alike = ap (λ (s : Bool). if s then 0 else 1) same.static
 
-  pub behind_alike : behind_params b ≡ behind_params c
-  behind_alike =
+  pub after_alike : after_params b ≡ after_params c
+  after_alike =
       let one : length (map (λ (q : ParamTree). q.ty) b.params) ≡ length b.params = length-map b.params (λ (q : ParamTree). q.ty) in
       let two : length (map (λ (q : ParamTree). q.ty) c.params) ≡ length c.params = length-map c.params (λ (q : ParamTree). q.ty) in
       let three = ap length same.types in
       let four = first_alike in
       omega arith
 
-  pub reads_alike : (x : BodyTree) → contract_reads (first_param b) (behind_params b) x ≡ true → contract_reads (first_param c) (behind_params c) x ≡ true
-  reads_alike x h = subst (λ n. contract_reads (first_param c) n x ≡ true) behind_alike (subst (λ n. contract_reads n (behind_params b) x ≡ true) first_alike h)
+  pub reads_alike : (x : BodyTree) → contract_reads (first_param b) (after_params b) x ≡ true → contract_reads (first_param c) (after_params c) x ≡ true
+  reads_alike x h = subst (λ n. contract_reads (first_param c) n x ≡ true) after_alike (subst (λ n. contract_reads n (after_params b) x ≡ true) first_alike h)
 
   entries_alike : (t u : ℕ) → b.flags.ctor ≡ false → c.flags.ctor ≡ false → normal_defaults (default_entry b t) ≡ normal_defaults (default_entry c u)
   entries_alike t u method also =
@@ -156,16 +156,16 @@ captures_kept : (qs : List ParamTree) → captures (map param_of qs) ≡ map (λ
 captures_kept [] = refl
 captures_kept (q ∷ qs) = ap (λ ts. q.captured ∷ ts) (captures_kept qs)
 
--- The body c is declared behind others for the method of b, and `to` has its contract.
+-- The body c is declared after others for the method of b, and `to` has its contract.
 pub stands_for : (from to : core.BodyTree) (b c : BodyTree) (t u : ℕ) (before cs more : List BodyTree) → HasContract from b t (before ++ b ∷ []) → HasContract to c u cs → cs ≡ (before ++ b ∷ []) ++ more → SameHeading c b → b.flags.ctor ≡ false → c.flags.ctor ≡ false →
-    list_all (contract_reads (first_param b) (behind_params b)) cs ≡ true → StandsFor from to
+    list_all (contract_reads (first_param b) (after_params b)) cs ≡ true → StandsFor from to
 stands_for from to b c t u before cs more f g is same method also read =
     let bs = before ++ b ∷ [] in
     let low = first_param b in
-    let n = behind_params b in
+    let n = after_params b in
     let r = results b.result in
     let ns = settled n r in
-    let size : behind_params c ≡ n = behind_alike c b same in
+    let size : after_params c ≡ n = after_alike c b same in
     let result : results c.result ≡ r = ap results same.result in
     let parts = and_parts (list_all (contract_reads low n) bs) (list_all (contract_reads low n) more) (sym (list_all-append (contract_reads low n) bs more) ∙ subst (λ xs. list_all (contract_reads low n) xs ≡ true) is read) in
     let asked : entry_of_first cs ≡ entry_of_first bs = ap entry_of_first is ∙ first_entry_kept before more b in

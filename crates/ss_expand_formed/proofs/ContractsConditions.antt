@@ -29,7 +29,7 @@ use Rattle.ss_expand_formed.proofs.Searching.{at_back}
 use Rattle.ss_expand_formed.proofs.Fit.{Context, Fit, IsRead}
 use Rattle.ss_expand_formed.proofs.Plain.{Reads, bare, bare_bool, bare_reference, bare_class}
 use Rattle.ss_expand_formed.proofs.ExpressionsWords.{words, Apart, plain_words}
-use Rattle.ss_expand_formed.proofs.Readings.{behind_params}
+use Rattle.ss_expand_formed.proofs.Readings.{after_params}
 use Rattle.ss_expand_formed.proofs.Normal.{HasContract}
 use Rattle.ss_expand_formed.proofs.Headings.{SameHeading}
 use Rattle.ss_expand_formed.proofs.Contracts.{types_kept}
@@ -134,7 +134,7 @@ module _ (P : TypedTree) (C : List core.ClassTree) (chain : IsChain C) (y : core
       ap (λ (s : Bool). (if s then [] else ty.Ref (record { 0 = d.class }) true ∷ []) ++ types_of y.params) (is.static ∙ sym same.static)
       ∙ ap (λ ts. (if d.flags.is_static then [] else ty.Ref (record { 0 = d.class }) true ∷ []) ++ ts) (ap types_of is.params ∙ types_kept b.params ∙ sym same.types)
 
-  count_above : argument_count above ≡ behind_params b
+  count_above : argument_count above ≡ after_params b
   count_above = also_above.size
 
   in_above : (n : ℕ) (t : Ty) → slice_get (contract_context d).locals n ≡ Some t → slice_get (local_types above) n ≡ Some t
@@ -187,7 +187,7 @@ module _ (P : TypedTree) (C : List core.ClassTree) (chain : IsChain C) (y : core
 
   -- ---- numbers
 
-  count_here : argument_count y ≡ behind_params b
+  count_here : argument_count y ≡ after_params b
   count_here = is.size
 
   argument_here : (n : ℕ) (t : Ty) → slice_get (contract_context d).locals n ≡ Some t → n < argument_count y

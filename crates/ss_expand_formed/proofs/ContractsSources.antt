@@ -28,7 +28,7 @@ use Rattle.ss_resolver_rules.specs.Programs.{entry_in, exit_in, modifies_in, par
 use Rattle.ss_expand_formed.proofs.Facts.{none_left}
 use Rattle.ss_expand_formed.proofs.ChainLaw.{none_at}
 use Rattle.ss_expand_formed.proofs.ExpressionsPlaces.{At, env_at}
-use Rattle.ss_expand_formed.proofs.Scenes.{env_behind, first_number, place_of, params_there}
+use Rattle.ss_expand_formed.proofs.Scenes.{env_after, first_number, place_of, params_there}
 
 -- ---- members
 
@@ -160,7 +160,7 @@ module _ (p : ProgramTree) (faultless : program_faults p ≡ []) (typed_well : p
       let three = none_left (types.result_faults m.result ++ types.params_faults m.params ++ types.clauses_faults b t m.clauses) (statements.block_faults b t m.body) four.0 in
       let two = none_left (types.result_faults m.result ++ types.params_faults m.params) (types.clauses_faults b t m.clauses) three.0 in
       let e0 : Env = record (class_env p.classes k) { next = first_number static } in
-      let env : method_env p.classes k m ≡ env_at p (place_in p.classes k static m.result m.params) = ap (λ e. result_env e (option_map (type_id p.classes) m.result)) (env_behind e0 m.params) in
+      let env : method_env p.classes k m ≡ env_at p (place_in p.classes k static m.result m.params) = ap (λ e. result_env e (option_map (type_id p.classes) m.result)) (env_after e0 m.params) in
       record {
         class = k;
         within = slice_get_within p.classes k c at;
@@ -193,7 +193,7 @@ module _ (p : ProgramTree) (faultless : program_faults p ≡ []) (typed_well : p
       let typed_kind : types.kind_faults p.classes k c w.member.modifiers (constructor_kind d) ≡ [] = subst (λ q. types.kind_faults p.classes k c w.member.modifiers q ≡ []) w.is typed_member in
       let clauses = constructor_typed d typed_kind in
       let e0 : Env = record (class_env p.classes k) { next = 1 } in
-      let env : param_env p.classes k false d.params ≡ env_at p (place_in p.classes k false None d.params) = env_behind e0 d.params in
+      let env : param_env p.classes k false d.params ≡ env_at p (place_in p.classes k false None d.params) = env_after e0 d.params in
       record {
         class = k;
         within = slice_get_within p.classes k c at;

@@ -20,7 +20,7 @@ use Rattle.ss_expand_rules.specs.Program.{above_of}
 use Rattle.ss_typed.specs.Lookups.{constructor_of, param_types_in}
 use Rattle.ss_expand_rules.specs.Code.{Coded, nothing, then_code}
 use Rattle.ss_expand_rules.specs.Lifting.{Opened, ElaborationContext, Source, Pure, Created, CreatedArray, Called, Lifted, Valued, Listed, unlifted, temporary_type, any_object, in_temporary, valued_from, valued, lifted_of, operand, unary, binary, lazily, holds, fails, negated, operation, implication, first_type, other_types, no_operands, operands_of, and_operands, dispatched, static_class, types_of_constructor, types_of_written, types_of_method, lifted, in_temporaries, right_side, value, arguments_of}
-use Rattle.ss_expand_rules.specs.Simple.{assign_settled, Settled, settle_lifted, settle_part, settle, assign_behind, assign, update, assignment, step_operator, declared_as, declare, print, ready_behind, base_with, base_of, simple}
+use Rattle.ss_expand_rules.specs.Simple.{assign_settled, Settled, settle_lifted, settle_part, settle, assign_after, assign, update, assignment, step_operator, declared_as, declare, print, ready_after, base_with, base_of, simple}
 use Rattle.ss_expand_rules.specs.Ends.{can_end, block_can_end}
 use Rattle.ss_expand_rules.specs.Statements.{loop_while, begin, advance, leave_value, leave, result_type, exposed_class, within, close, opened, expose_lifted, stmt, block, stmts}
 
@@ -211,20 +211,20 @@ module _ (p : TypedTree) (b : BodyTree) (meant : List ℕ) (first outcome other_
         )
     settle_same target made = (refl, refl)
 
-    behind_same : (f : ExprTree → ExprTree) (x y : Settled) → SameSettled x y → (assign_behind (one os) (f x.target) x).made ≡ (assign_behind (two os) (f y.target) y).made
-    behind_same f x y h =
+    after_same : (f : ExprTree → ExprTree) (x y : Settled) → SameSettled x y → (assign_after (one os) (f x.target) x).made ≡ (assign_after (two os) (f y.target) y).made
+    after_same f x y h =
         ap (λ t. (assign_settled (one os) t (f t) x.made).made) h.1
         ∙ ap (λ m. (assign_settled (one os) y.target (f y.target) m).made) h.0
         ∙ assign_settled_same y.target (f y.target) y.made
 
     assign_same : (target e : ExprTree) → CodeAlike (assign (one os) target e) (assign (two os) target e)
     assign_same target e made =
-        both_either (λ (x y : Coded). x.made ≡ y.made) (has_call target || has_call e) (assign_behind (one os) e (settle (one os) target made)) (assign_behind (two os) e (settle (two os) target made)) (assign_settled (one os) target e made) (assign_settled (two os) target e made)
-        (behind_same (λ t. e) (settle (one os) target made) (settle (two os) target made) (settle_same target made))
+        both_either (λ (x y : Coded). x.made ≡ y.made) (has_call target || has_call e) (assign_after (one os) e (settle (one os) target made)) (assign_after (two os) e (settle (two os) target made)) (assign_settled (one os) target e made) (assign_settled (two os) target e made)
+        (after_same (λ t. e) (settle (one os) target made) (settle (two os) target made) (settle_same target made))
         (assign_settled_same target e made)
 
     update_same : (o : Operator) (target e : ExprTree) → CodeAlike (update (one os) o target e) (update (two os) o target e)
-    update_same o target e made = behind_same (λ t. BinaryOf (place_of t) o t e) (settle (one os) target made) (settle (two os) target made) (settle_same target made)
+    update_same o target e made = after_same (λ t. BinaryOf (place_of t) o t e) (settle (one os) target made) (settle (two os) target made) (settle_same target made)
 
     assignment_same : (target : ExprTree) (o : AssignOperator) (e : ExprTree) → CodeAlike (assignment (one os) target o e) (assignment (two os) target o e)
     assignment_same target operator.Set e made = assign_same target e made
@@ -249,7 +249,7 @@ module _ (p : TypedTree) (b : BodyTree) (meant : List ℕ) (first outcome other_
     base_same : (q : Place) (es : Arguments) (t : ℕ) → CodeAlike (base_of (one os) q es t) (base_of (two os) q es t)
     base_same q es t made =
         let ts = param_types_in (constructor_of p t) in
-        both_either (λ (x y : Coded). x.made ≡ y.made) (t == 0) (record { code = ready_behind (one os) q t; made = made }) (record { code = ready_behind (two os) q t; made = made }) (base_with (one os) q t (arguments_of (one os) ts es made)) (base_with (two os) q t (arguments_of (two os) ts es made))
+        both_either (λ (x y : Coded). x.made ≡ y.made) (t == 0) (record { code = ready_after (one os) q t; made = made }) (record { code = ready_after (two os) q t; made = made }) (base_with (one os) q t (arguments_of (one os) ts es made)) (base_with (two os) q t (arguments_of (two os) ts es made))
         refl
         (operands_same es (in_temporaries (one os) ts es) (in_temporaries (two os) ts es) (in_temporaries_same ts es) made)
 

@@ -11,7 +11,7 @@ use Rattle.ss_ast.specs.Expressions.{NameTree, TypeTree}
 use Rattle.ss_ast.specs.Statements.{DeclaratorTree, DeclarationTree, ForInitTree, DeclareFirst, SimpleFirst, BlockTree, BlockOf, StmtTree, InBlock, DeclareOf, SimpleOf, IfOf, IfElseOf, WhileOf, ForOf, ReturnOf, AssertOf, AssumeOf, ExposeOf, EmptyOf, StmtTrees, NoMore, Before}
 use Rattle.ss_ast.specs.Programs.{ParamTree, BaseCallTree, ClauseTree, MemberKindTree, FieldsOf, InvariantOf, MethodOf, ConstructorOf, MemberTree, ClassTree, ProgramTree}
 use Rattle.ss_tables.specs.Members.{methods_of_kind, constructors_of_kind, methods_in, constructors_in, is_static, is_static_word, word_of, MethodTree}
-use Rattle.ss_tables.specs.Scopes.{Scope, class_scope, declare_local, declare_all, behind, behind_init, enter}
+use Rattle.ss_tables.specs.Scopes.{Scope, class_scope, declare_local, declare_all, behind, after_init, enter}
 use Rattle.ss_tables.specs.Scopes as scopes
 use Rattle.ss_tables.specs.Statics.{result_type}
 use Rattle.ss_typed.specs.Tree.{BodyTree}
@@ -37,24 +37,24 @@ all_classes : (s : Scope) (t : TypeTree) (ds : List DeclaratorTree) → (declare
 all_classes s t [] = refl
 all_classes s t (d ∷ ds) = all_classes (declare_local s t d.name) t ds
 
-init_classes : (s : Scope) (i : Option ForInitTree) → (behind_init s i).classes ≡ s.classes
+init_classes : (s : Scope) (i : Option ForInitTree) → (after_init s i).classes ≡ s.classes
 init_classes s None = refl
 init_classes s (Some (DeclareFirst d)) = all_classes s d.ty d.declarators
 init_classes s (Some (SimpleFirst x)) = refl
 
-behind_classes : (s : Scope) (x : StmtTree) → (behind s x).classes ≡ s.classes
-behind_classes s (DeclareOf d) = all_classes s d.ty d.declarators
-behind_classes s (InBlock b) = refl
-behind_classes s (SimpleOf x) = refl
-behind_classes s (IfOf p e a) = refl
-behind_classes s (IfElseOf p e a b) = refl
-behind_classes s (WhileOf p e is a) = refl
-behind_classes s (ForOf p i e x is a) = refl
-behind_classes s (ReturnOf p e) = refl
-behind_classes s (AssertOf p e) = refl
-behind_classes s (AssumeOf p e) = refl
-behind_classes s (ExposeOf p e n b) = refl
-behind_classes s (EmptyOf p) = refl
+after_classes : (s : Scope) (x : StmtTree) → (behind s x).classes ≡ s.classes
+after_classes s (DeclareOf d) = all_classes s d.ty d.declarators
+after_classes s (InBlock b) = refl
+after_classes s (SimpleOf x) = refl
+after_classes s (IfOf p e a) = refl
+after_classes s (IfElseOf p e a b) = refl
+after_classes s (WhileOf p e is a) = refl
+after_classes s (ForOf p i e x is a) = refl
+after_classes s (ReturnOf p e) = refl
+after_classes s (AssertOf p e) = refl
+after_classes s (AssumeOf p e) = refl
+after_classes s (ExposeOf p e n b) = refl
+after_classes s (EmptyOf p) = refl
 
 params_classes : (s : Scope) (ps : List ParamTree) → (scopes.declare_params s ps).classes ≡ s.classes
 params_classes s [] = refl
@@ -100,7 +100,7 @@ module _ (p : ProgramTree) (faultless : program_faults p ≡ []) where
         both_known (declared_in a) (declared_in b) (stmt_known (enter s) same a one.1) (stmt_known (enter s) same b both.1)
     stmt_known s same (WhileOf q e es a) h = stmt_known (enter s) same a (none_left (expr_faults s e ++ faults_of_all s es) (stmt_faults (enter s) a) h).1
     stmt_known s same (ForOf q i e x es a) h =
-        let t = behind_init (enter s) i in
+        let t = after_init (enter s) i in
         let both = none_left (init_faults (enter s) i ++ heading_faults t e x es) (stmt_faults (enter t) a) h in
         let one = none_left (init_faults (enter s) i) (heading_faults t e x es) both.0 in
         both_known (declared_first i) (declared_in a) (first_known (enter s) same i one.0) (stmt_known (enter t) (init_classes (enter s) i ∙ same) a both.1)
@@ -117,7 +117,7 @@ module _ (p : ProgramTree) (faultless : program_faults p ≡ []) where
     stmts_known s same NoMore h = refl
     stmts_known s same (Before x xs) h =
         let both = none_left (stmt_faults s x) (stmts_faults (behind s x) xs) h in
-        both_known (declared_in x) (declared_in_all xs) (stmt_known s same x both.0) (stmts_known (behind s x) (behind_classes s x ∙ same) xs both.1)
+        both_known (declared_in x) (declared_in_all xs) (stmt_known s same x both.0) (stmts_known (behind s x) (after_classes s x ∙ same) xs both.1)
 
   -- ---- bodies
 

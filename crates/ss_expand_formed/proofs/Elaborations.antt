@@ -58,7 +58,7 @@ this_stays : (ns : Numbers) (e : ExprTree) → is_this e ≡ true → store.is_t
 this_stays ns (ThisOf p t) h = refl
 this_stays ns e h = absurd (false≢true h)
 
--- what stands behind a `result` without a type has that word in it
+-- what stands after a `result` without a type has that word in it
 untyped_word : (x : ExprTree) → written.is_untyped x ≡ true → misplaced NoWord x ≡ [] → ⊥
 untyped_word (ResultOf q u) h m = cc
 untyped_word (ElementOf q a i) h m = untyped_word a h (none_of (misplaced NoWord a) (misplaced NoWord i) m).0

@@ -1,4 +1,4 @@
--- Places of a program: in a class, behind parameters, in a method and in a constructor.
+-- Places of a program: in a class, after parameters, in a method and in a constructor.
 use Rattle.std.proofs.Common.{◌≡◌, ℕ, suc, ◌+◌, ◌<◌, List, [], ◌∷◌, ◌++◌, length, map, Bool, true, false, Option, Some, None, refl, ap, subst, arith}
 use Rattle.std.specs.Prelude.{slice_get, is_some, option_map, if◌then◌else◌}
 use Rattle.std.proofs.lemmas.Bool.{false≢true}
@@ -55,7 +55,7 @@ this_in b = if b.flags.is_static then [] else class_type b.class true ∷ []
 abbrev pub param_types : BodyTree → List Ty
 param_types b = map (λ (q : typed.ParamTree). q.ty) b.params
 
--- its arguments, and locals of these types behind them
+-- its arguments, and locals of these types after them
 abbrev pub context_with : BodyTree → List Ty → Context
 context_with b ls = record { is_static = b.flags.is_static; class = b.class; locals = this_in b ++ param_types b ++ ls; result = b.result }
 
@@ -69,7 +69,7 @@ class_context k = record { is_static = false; class = class_number k; locals = c
 -- ---- environments
 
 module _ (p : ProgramTree) where
-  -- behind a local of this type, which may be a parameter
+  -- after a local of this type, which may be a parameter
   abbrev pub with_at : Bool → At → TypeTree → List ℕ → At
   with_at is_param a t n = record a {
     names = with_named a.names n (record { ty = written_type p.classes t; is_param = is_param });

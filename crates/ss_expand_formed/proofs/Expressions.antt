@@ -87,7 +87,7 @@ module _ (z : Frame) (agrees : Agrees z) (os : List Opened) where
       HasMade z (operands_of (ns z agrees) es (in_temporaries (s z agrees os) wanted es) made).made → Lists z agrees os k l us (operands_of (ns z agrees) es (in_temporaries (s z agrees os) wanted es) made)
   arguments_with us ts wanted es f k l made c h w rec m = operands_known k l us es (in_temporaries (s z agrees os) wanted es) made (λ i g. rec g) (λ n. plain_known k l c us ts es made f n h w) m
 
-  -- an object of which nothing is asked, and arguments behind it
+  -- an object of which nothing is asked, and arguments after it
   receiver_with : (k : source.Known) (l : Known) (us : List Ty) (e : ExprTree) (es : Arguments) (others : List Ty → Listed) (made : List Ty) → Covers z k l → fits z e ≡ true → ((ms : List Ty) → Begins ms (others ms).made) →
       HasMade z (operands_of (ns z agrees) (Argument e es) (λ q. and_operands (operand (ns z agrees) any_object e (lifted (s z agrees os) e) q) others) made).made →
       (has_call e ≡ true → HasMade z (lifted (s z agrees os) e made).made → Lifts z agrees k l e (lifted (s z agrees os) e made)) →

@@ -128,10 +128,10 @@ module _ (condition lacks : Bool) (members this : Bool) where
   receiver_same s (BaseOf p) h g = refl
   receiver_same s y h g = ap AValue (g h)
 
-  -- the callee behind a dot, where it is none of the class above
-  behind_same : (s : Scope) (k : ℕ) (p : Place) (y : ExprTree) (n : NameTree) → is_wrong_call k (called (A s) k (MemberOf p y n)) ≡ false → (t : Option Ty) → member_callee (V s) n.text (receiver (S s) y t) ≡ member_callee (S s) n.text (receiver (S s) y t)
-  behind_same s k p (BaseOf q) n g t = absurd (false≢true (sym g))
-  behind_same s k p (NameOf q m) n g t = by (is_some (local_named s m)) (is_console m) (is_owner m) (is_member s.classes s.class m) (class_named s.classes m)
+  -- the callee after a dot, where it is none of the class above
+  after_same : (s : Scope) (k : ℕ) (p : Place) (y : ExprTree) (n : NameTree) → is_wrong_call k (called (A s) k (MemberOf p y n)) ≡ false → (t : Option Ty) → member_callee (V s) n.text (receiver (S s) y t) ≡ member_callee (S s) n.text (receiver (S s) y t)
+  after_same s k p (BaseOf q) n g t = absurd (false≢true (sym g))
+  after_same s k p (NameOf q m) n g t = by (is_some (local_named s m)) (is_console m) (is_owner m) (is_member s.classes s.class m) (class_named s.classes m)
     where
       by : (l c o b : Bool) (j : Option ℕ) → member_callee (V s) n.text (any_receiver l c o b j t) ≡ member_callee (S s) n.text (any_receiver l c o b j t)
       by true c o b j = refl
@@ -140,7 +140,7 @@ module _ (condition lacks : Bool) (members this : Bool) where
       by false false false true j = refl
       by false false false false (Some j) = refl
       by false false false false None = refl
-  behind_same s k p y n g t = refl
+  after_same s k p y n g t = refl
 
   mutual
     pub static_same : (s : Scope) (y : ExprTree) → faults (A s) AsValue y ≡ [] → static (V s) y ≡ static (S s) y
@@ -161,7 +161,7 @@ module _ (condition lacks : Bool) (members this : Bool) where
     callee_same s k (NameOf p n) h g = called_same s k n g
     callee_same s k (MemberOf p y n) h g =
         let left = three_left (faults (A s) BeforeDot y) _ _ h in
-        ap (member_callee (V s) n.text) (receiver_same s y left.0 (static_same s y)) ∙ behind_same s k p y n g (static (S s) y)
+        ap (member_callee (V s) n.text) (receiver_same s y left.0 (static_same s y)) ∙ after_same s k p y n g (static (S s) y)
     callee_same s k f h g = refl
 
   pub receiver_alike : (s : Scope) (y : ExprTree) → faults (A s) BeforeDot y ≡ [] → receiver (V s) y (static (V s) y) ≡ receiver (S s) y (static (S s) y)

@@ -21,7 +21,7 @@ use Rattle.ss_expand_formed.proofs.Facts.{none_left}
 use Rattle.ss_expand_formed.proofs.Choices.{where_chosen}
 use Rattle.ss_expand_formed.proofs.Simple.{Left, Assigning, PrintsOnly, InSimple, InDeclared, KeepsSimple}
 use Rattle.ss_expand_formed.proofs.ConstructionStatements.{AllOf, AtFirst, AtStep, At, InAll, Along, KeepsStatements}
-use Rattle.ss_expand_formed.proofs.Uses.{is_other, other, IsBehindThis, Fine, AreFine, fine, two_fine, own_or_fine, stays, default_stays, behaves}
+use Rattle.ss_expand_formed.proofs.Uses.{is_other, other, IsAfterThis, Fine, AreFine, fine, two_fine, own_or_fine, stays, default_stays, behaves}
 use Rattle.ss_expand_formed.proofs.ReadLocals.{Other, OtherSimple}
 
 -- ---- `this` at all, and but for its fields
@@ -157,7 +157,7 @@ module _ (u : Use) where
 
 -- ---- tests of a delayed constructor
 
-module _ (ns : Numbers) (n : IsBehindThis ns) (t : ℕ) where
+module _ (ns : Numbers) (n : IsAfterThis ns) (t : ℕ) where
   number_of : (k : ℕ) → is_other (ns.first_temporary + k) ≡ true
   number_of k = let l = n.temporaries in other (ns.first_temporary + k) (omega arith)
 
@@ -218,7 +218,7 @@ means_other b static n (suc i) h =
     by None low = other (suc i) (omega arith)
     by (Some y) low = other y (low y refl)
 
-pub behind_this : (b : BodyTree) → b.flags.is_static ≡ false → (n : ℕ) → IsBehindThis (numbers b n)
-behind_this b static n =
+pub after_this : (b : BodyTree) → b.flags.is_static ≡ false → (n : ℕ) → IsAfterThis (numbers b n)
+after_this b static n =
     let one : first_param b ≡ 1 = rw static refl in
     record { means = means_other b static n; outcome = omega arith; bound = omega arith; temporaries = omega arith }

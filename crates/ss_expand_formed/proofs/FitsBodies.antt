@@ -97,7 +97,7 @@ module _ (p : ProgramTree) where
       let z : n + 0 ≡ n = omega arith in
       (subst (λ m. slice_get x.locals m ≡ Some (type_id p.classes d.ty)) z (h 0 d refl), placed_from x (n + 1) ds (λ i e g. let s : n + 1 + i ≡ n + suc i = omega arith in rw s (h (suc i) e g)))
 
-  -- the declared locals stand behind the parameters
+  -- the declared locals stand after the parameters
   locals_placed : (b : BodyTree) (e : Env) → e.scope.classes ≡ p.classes → (c : written.BlockTree) → b.locals ≡ locals e c → (n : ℕ) → n ≡ first_param b + length b.params → Placed p (context_of b) n (declared_in_block c)
   locals_placed b e same c is n number =
       let front = this_in b ++ param_types b in

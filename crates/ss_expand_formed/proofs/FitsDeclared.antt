@@ -1,4 +1,4 @@
--- The places behind declared locals, and the types that these have in the context of the body.
+-- The places after declared locals, and the types that these have in the context of the body.
 use Rattle.std.proofs.Common.{◌≡◌, ℕ, suc, ◌+◌, List, [], ◌∷◌, ◌++◌, length, map, Bool, true, false, Option, Some, None, refl, sym, ◌∙◌, ap, subst, arith}
 use Rattle.std.specs.Prelude.{slice_get, option_map}
 use Rattle.std.proofs.lemmas.List.{length-map}
@@ -18,7 +18,7 @@ use Rattle.ss_resolver_types_heads.specs.Expressions.{mark_faults}
 use Rattle.ss_resolver_types_expressions.specs.Statements.{Body, Outcome, initial_faults}
 use Rattle.ss_resolver_types_expressions.specs.Statements as typing
 use Rattle.ss_resolver_rules.specs.Numbers.{type_id}
-use Rattle.ss_resolver_rules.specs.Names.{Env, enter, behind_declaration}
+use Rattle.ss_resolver_rules.specs.Names.{Env, enter, after_declaration}
 use Rattle.ss_resolver_rules.specs.Names as resolver
 use Rattle.ss_resolver_rules.specs.Expressions.{expr}
 use Rattle.ss_resolver_rules.specs.Statements.{Declared, declared_by, declared_first, declared_in, declarators, declaration, behind, behind_first}
@@ -48,7 +48,7 @@ abbrev pub past_at : At → List Declared → At
 past_at a ds = record a { next = a.next + length ds }
 
 module _ (p : ProgramTree) where
-  -- behind declared locals
+  -- after declared locals
   abbrev pub declared_at : At → TypeTree → List written.DeclaratorTree → At
   declared_at a t [] = a
   declared_at a t (d ∷ ds) = declared_at (with_at p false a t d.name.text) t ds
@@ -58,20 +58,20 @@ module _ (p : ProgramTree) where
   first_at a (Some (written.DeclareFirst d)) = declared_at a d.ty d.declarators
   first_at a (Some (written.SimpleFirst s)) = a
 
-  -- behind a statement
-  abbrev pub behind_at : At → written.StmtTree → At
-  behind_at a (written.DeclareOf d) = declared_at a d.ty d.declarators
-  behind_at a (written.InBlock b) = past_at a (declared_in (written.InBlock b))
-  behind_at a (written.SimpleOf s) = a
-  behind_at a (written.IfOf q e s) = past_at a (declared_in (written.IfOf q e s))
-  behind_at a (written.IfElseOf q e s r) = past_at a (declared_in (written.IfElseOf q e s r))
-  behind_at a (written.WhileOf q e es s) = past_at a (declared_in (written.WhileOf q e es s))
-  behind_at a (written.ForOf q i e z es s) = past_at a (declared_in (written.ForOf q i e z es s))
-  behind_at a (written.ReturnOf q e) = a
-  behind_at a (written.AssertOf q e) = a
-  behind_at a (written.AssumeOf q e) = a
-  behind_at a (written.ExposeOf q e n b) = past_at a (declared_in (written.ExposeOf q e n b))
-  behind_at a (written.EmptyOf q) = a
+  -- after a statement
+  abbrev pub after_at : At → written.StmtTree → At
+  after_at a (written.DeclareOf d) = declared_at a d.ty d.declarators
+  after_at a (written.InBlock b) = past_at a (declared_in (written.InBlock b))
+  after_at a (written.SimpleOf s) = a
+  after_at a (written.IfOf q e s) = past_at a (declared_in (written.IfOf q e s))
+  after_at a (written.IfElseOf q e s r) = past_at a (declared_in (written.IfElseOf q e s r))
+  after_at a (written.WhileOf q e es s) = past_at a (declared_in (written.WhileOf q e es s))
+  after_at a (written.ForOf q i e z es s) = past_at a (declared_in (written.ForOf q i e z es s))
+  after_at a (written.ReturnOf q e) = a
+  after_at a (written.AssertOf q e) = a
+  after_at a (written.AssumeOf q e) = a
+  after_at a (written.ExposeOf q e n b) = past_at a (declared_in (written.ExposeOf q e n b))
+  after_at a (written.EmptyOf q) = a
 
   declared_env : (a : At) (t : TypeTree) (ds : List written.DeclaratorTree) → resolver.declare_all (env_at p a) t ds ≡ env_at p (declared_at a t ds)
   declared_env a t [] = refl
@@ -82,19 +82,19 @@ module _ (p : ProgramTree) where
   first_env a (Some (written.DeclareFirst d)) = declared_env a d.ty d.declarators
   first_env a (Some (written.SimpleFirst s)) = refl
 
-  pub behind_env : (a : At) (s : written.StmtTree) → behind (env_at p a) s ≡ env_at p (behind_at a s)
-  behind_env a (written.DeclareOf d) = declared_env a d.ty d.declarators
-  behind_env a (written.InBlock b) = refl
-  behind_env a (written.SimpleOf s) = refl
-  behind_env a (written.IfOf q e s) = refl
-  behind_env a (written.IfElseOf q e s r) = refl
-  behind_env a (written.WhileOf q e es s) = refl
-  behind_env a (written.ForOf q i e z es s) = refl
-  behind_env a (written.ReturnOf q e) = refl
-  behind_env a (written.AssertOf q e) = refl
-  behind_env a (written.AssumeOf q e) = refl
-  behind_env a (written.ExposeOf q e n b) = refl
-  behind_env a (written.EmptyOf q) = refl
+  pub after_env : (a : At) (s : written.StmtTree) → behind (env_at p a) s ≡ env_at p (after_at a s)
+  after_env a (written.DeclareOf d) = declared_env a d.ty d.declarators
+  after_env a (written.InBlock b) = refl
+  after_env a (written.SimpleOf s) = refl
+  after_env a (written.IfOf q e s) = refl
+  after_env a (written.IfElseOf q e s r) = refl
+  after_env a (written.WhileOf q e es s) = refl
+  after_env a (written.ForOf q i e z es s) = refl
+  after_env a (written.ReturnOf q e) = refl
+  after_env a (written.AssertOf q e) = refl
+  after_env a (written.AssumeOf q e) = refl
+  after_env a (written.ExposeOf q e n b) = refl
+  after_env a (written.EmptyOf q) = refl
 
   module _ (members this : Bool) where
     -- the scope of a phase
@@ -105,24 +105,24 @@ module _ (p : ProgramTree) where
     declared_scope a t [] = refl
     declared_scope a t (d ∷ ds) = declared_scope (with_at p false a t d.name.text) t ds
 
-    pub first_scope : (a : At) (i : Option written.ForInitTree) → scopes.behind_init (S a) i ≡ S (first_at a i)
+    pub first_scope : (a : At) (i : Option written.ForInitTree) → scopes.after_init (S a) i ≡ S (first_at a i)
     first_scope a None = refl
     first_scope a (Some (written.DeclareFirst d)) = declared_scope a d.ty d.declarators
     first_scope a (Some (written.SimpleFirst s)) = refl
 
-    pub behind_scope : (a : At) (s : written.StmtTree) → scopes.behind (S a) s ≡ S (behind_at a s)
-    behind_scope a (written.DeclareOf d) = declared_scope a d.ty d.declarators
-    behind_scope a (written.InBlock b) = refl
-    behind_scope a (written.SimpleOf s) = refl
-    behind_scope a (written.IfOf q e s) = refl
-    behind_scope a (written.IfElseOf q e s r) = refl
-    behind_scope a (written.WhileOf q e es s) = refl
-    behind_scope a (written.ForOf q i e z es s) = refl
-    behind_scope a (written.ReturnOf q e) = refl
-    behind_scope a (written.AssertOf q e) = refl
-    behind_scope a (written.AssumeOf q e) = refl
-    behind_scope a (written.ExposeOf q e n b) = refl
-    behind_scope a (written.EmptyOf q) = refl
+    pub after_scope : (a : At) (s : written.StmtTree) → scopes.behind (S a) s ≡ S (after_at a s)
+    after_scope a (written.DeclareOf d) = declared_scope a d.ty d.declarators
+    after_scope a (written.InBlock b) = refl
+    after_scope a (written.SimpleOf s) = refl
+    after_scope a (written.IfOf q e s) = refl
+    after_scope a (written.IfElseOf q e s r) = refl
+    after_scope a (written.WhileOf q e es s) = refl
+    after_scope a (written.ForOf q i e z es s) = refl
+    after_scope a (written.ReturnOf q e) = refl
+    after_scope a (written.AssertOf q e) = refl
+    after_scope a (written.AssumeOf q e) = refl
+    after_scope a (written.ExposeOf q e n b) = refl
+    after_scope a (written.EmptyOf q) = refl
 
   -- ---- the number of the next local
 
@@ -135,19 +135,19 @@ module _ (p : ProgramTree) where
   first_next a (Some (written.DeclareFirst d)) = declared_next a d.ty d.declarators ∙ ap (λ n. a.next + n) (sym (length-map d.declarators (named d.ty)))
   first_next a (Some (written.SimpleFirst s)) = omega arith
 
-  pub behind_next : (a : At) (s : written.StmtTree) → (behind_at a s).next ≡ a.next + length (declared_in s)
-  behind_next a (written.DeclareOf d) = declared_next a d.ty d.declarators ∙ ap (λ n. a.next + n) (sym (length-map d.declarators (named d.ty)))
-  behind_next a (written.InBlock b) = refl
-  behind_next a (written.SimpleOf s) = omega arith
-  behind_next a (written.IfOf q e s) = refl
-  behind_next a (written.IfElseOf q e s r) = refl
-  behind_next a (written.WhileOf q e es s) = refl
-  behind_next a (written.ForOf q i e z es s) = refl
-  behind_next a (written.ReturnOf q e) = omega arith
-  behind_next a (written.AssertOf q e) = omega arith
-  behind_next a (written.AssumeOf q e) = omega arith
-  behind_next a (written.ExposeOf q e n b) = refl
-  behind_next a (written.EmptyOf q) = omega arith
+  pub after_next : (a : At) (s : written.StmtTree) → (after_at a s).next ≡ a.next + length (declared_in s)
+  after_next a (written.DeclareOf d) = declared_next a d.ty d.declarators ∙ ap (λ n. a.next + n) (sym (length-map d.declarators (named d.ty)))
+  after_next a (written.InBlock b) = refl
+  after_next a (written.SimpleOf s) = omega arith
+  after_next a (written.IfOf q e s) = refl
+  after_next a (written.IfElseOf q e s r) = refl
+  after_next a (written.WhileOf q e es s) = refl
+  after_next a (written.ForOf q i e z es s) = refl
+  after_next a (written.ReturnOf q e) = omega arith
+  after_next a (written.AssertOf q e) = omega arith
+  after_next a (written.AssumeOf q e) = omega arith
+  after_next a (written.ExposeOf q e n b) = refl
+  after_next a (written.EmptyOf q) = omega arith
 
 -- ---- the types of declared locals
 
@@ -227,7 +227,7 @@ module _ (p : ProgramTree) (faultless : program_faults p ≡ []) (x : Context) (
         let rest = declarators_fit (with_at p false a t d.name.text) (with_stands a here t w d.name.text placed.0) t w ds placed.1 ns.2 ts.1 hs.1 in
         record { fit = ((here.behind, placed.0, w.known, initial_fits a here t w d.initial ns.0 ts.0 hs.0), rest.fit); here = rest.here }
 
-    -- a declaration without faults, and the place behind it
+    -- a declaration without faults, and the place after it
     pub record IsDeclared (a : At) (d : written.DeclarationTree) : Type 0 where
       pub fit : FitDeclared (resolved p) C x constructs first (declaration (env_at p a) d)
       pub here : Here (declared_at p a d.ty d.declarators)

@@ -32,7 +32,7 @@ use Rattle.ss_expand_formed.proofs.ExpressionsPlaces.{At, env_at, IsKnown}
 use Rattle.ss_expand_formed.proofs.Fits.{WhereGiven, FitTest, FitClaims, FitFirst, FitStep, FitReturn, FitExposed, FitStmt, FitBlock, FitAll}
 use Rattle.ss_expand_formed.proofs.Given.{named_at, typed_at, code_at, Stands, given, value_fits, test_fits, claim_fits, claims_fit}
 use Rattle.ss_expand_formed.proofs.FitsSimple.{simple_fits}
-use Rattle.ss_expand_formed.proofs.FitsDeclared.{enter_at, past_at, first_at, behind_at, first_env, behind_env, first_scope, behind_scope, first_next, behind_next, Placed, placed_left, placed_right, enter_stands, past_stands, declaration_fits}
+use Rattle.ss_expand_formed.proofs.FitsDeclared.{enter_at, past_at, first_at, after_at, first_env, after_env, first_scope, after_scope, first_next, after_next, Placed, placed_left, placed_right, enter_stands, past_stands, declaration_fits}
 use Rattle.ss_expand_formed.proofs.Exposed.{exposed_fits}
 
 -- a body gives a value of the type of its result, where it has one
@@ -80,7 +80,7 @@ module _ (p : ProgramTree) (faultless : program_faults p ≡ []) (x : Context) (
 
   -- ---- the heading of a `for`
 
-  -- the place behind what it begins with
+  -- the place after what it begins with
   record IsBegun (a : At) (i : Option written.ForInitTree) : Type 0 where
     fit : FitFirst P C x constructs from (first (env_at p a) i)
     here : Here (first_at p a i)
@@ -102,24 +102,24 @@ module _ (p : ProgramTree) (faultless : program_faults p ≡ []) (x : Context) (
 
   -- ---- statements
 
-  pub behind_stands : (a : At) → Here a → (s : written.StmtTree) → Placed p x a.next (declared_in s) → naming.stmt_faults (U a) s ≡ [] → typing.stmt_faults B (T a) s ≡ [] → misplaced_at (stmt (env_at p a) s) ≡ [] → Here (behind_at p a s)
-  behind_stands a here (written.DeclareOf d) placed names types words = (declaration_fits p faultless x is_known static constructs from outcome a here d placed names types words).here
-  behind_stands a here (written.InBlock b) placed names types words = past_stands p faultless x is_known static constructs from a here (declared_in_block b)
-  behind_stands a here (written.SimpleOf s) placed names types words = here
-  behind_stands a here (written.IfOf q e s) placed names types words = past_stands p faultless x is_known static constructs from a here (declared_in s)
-  behind_stands a here (written.IfElseOf q e s r) placed names types words = past_stands p faultless x is_known static constructs from a here (declared_in s ++ declared_in r)
-  behind_stands a here (written.WhileOf q e es s) placed names types words = past_stands p faultless x is_known static constructs from a here (declared_in s)
-  behind_stands a here (written.ForOf q i e z es s) placed names types words = past_stands p faultless x is_known static constructs from a here (declared_first i ++ declared_in s)
-  behind_stands a here (written.ReturnOf q e) placed names types words = here
-  behind_stands a here (written.AssertOf q e) placed names types words = here
-  behind_stands a here (written.AssumeOf q e) placed names types words = here
-  behind_stands a here (written.ExposeOf q e n b) placed names types words = past_stands p faultless x is_known static constructs from a here (declared_in_block b)
-  behind_stands a here (written.EmptyOf q) placed names types words = here
+  pub after_stands : (a : At) → Here a → (s : written.StmtTree) → Placed p x a.next (declared_in s) → naming.stmt_faults (U a) s ≡ [] → typing.stmt_faults B (T a) s ≡ [] → misplaced_at (stmt (env_at p a) s) ≡ [] → Here (after_at p a s)
+  after_stands a here (written.DeclareOf d) placed names types words = (declaration_fits p faultless x is_known static constructs from outcome a here d placed names types words).here
+  after_stands a here (written.InBlock b) placed names types words = past_stands p faultless x is_known static constructs from a here (declared_in_block b)
+  after_stands a here (written.SimpleOf s) placed names types words = here
+  after_stands a here (written.IfOf q e s) placed names types words = past_stands p faultless x is_known static constructs from a here (declared_in s)
+  after_stands a here (written.IfElseOf q e s r) placed names types words = past_stands p faultless x is_known static constructs from a here (declared_in s ++ declared_in r)
+  after_stands a here (written.WhileOf q e es s) placed names types words = past_stands p faultless x is_known static constructs from a here (declared_in s)
+  after_stands a here (written.ForOf q i e z es s) placed names types words = past_stands p faultless x is_known static constructs from a here (declared_first i ++ declared_in s)
+  after_stands a here (written.ReturnOf q e) placed names types words = here
+  after_stands a here (written.AssertOf q e) placed names types words = here
+  after_stands a here (written.AssumeOf q e) placed names types words = here
+  after_stands a here (written.ExposeOf q e n b) placed names types words = past_stands p faultless x is_known static constructs from a here (declared_in_block b)
+  after_stands a here (written.EmptyOf q) placed names types words = here
 
   abbrev entered : (a : At) → Here a → Here (enter_at a)
   entered a here = enter_stands p faultless x is_known static constructs from a here
 
-  -- of what stands behind what a `for` begins with, in its environment and in the scopes of the phases
+  -- of what stands after what a `for` begins with, in its environment and in the scopes of the phases
   abbrev Heading : Env → Scope → Scope → Option text.ExprTree → Option written.SimpleTree → List text.ExprTree → Type 0
   Heading e s t c z es =
       naming.faults_of_any s c ≡ [] → naming.faults_of_any_simple s z ≡ [] → naming.faults_of_all s es ≡ [] → typing.test_faults B t c ≡ [] → typing.step_faults B t z ≡ [] → typing.conditions B t es ≡ [] →
@@ -183,8 +183,8 @@ module _ (p : ProgramTree) (faultless : program_faults p ≡ []) (x : Context) (
         let o = enter_at a in
         let inner = first_at p o i in
         let env = behind_first (enter (env_at p a)) i in
-        let named = scopes.behind_init (scopes.enter (U a)) i in
-        let known = scopes.behind_init (scopes.enter (T a)) i in
+        let named = scopes.after_init (scopes.enter (U a)) i in
+        let known = scopes.after_init (scopes.enter (T a)) i in
         let ns = three_left (naming.init_faults (scopes.enter (U a)) i) (naming.heading_faults named e z es) _ names in
         let hs = three_left (naming.faults_of_any named e) (naming.faults_of_any_simple named z) _ ns.1 in
         let last = none_left (typing.init_faults B (scopes.enter (T a)) i ++ typing.test_faults B known e ++ typing.step_faults B known z ++ typing.conditions B known es) _ types in
@@ -221,9 +221,9 @@ module _ (p : ProgramTree) (faultless : program_faults p ≡ []) (x : Context) (
         let ts = none_left (typing.stmt_faults B (T a) y) _ types in
         let ws = none_left (misplaced_at (stmt (env_at p a) y)) _ words in
         let mine = placed_left p x a.next (declared_in y) (declared_in_all ys) placed in
-        let b = behind_at p a y in
-        let more : Placed p x b.next (declared_in_all ys) = subst (λ n. Placed p x n (declared_in_all ys)) (sym (behind_next p a y)) (placed_right p x a.next (declared_in y) (declared_in_all ys) placed) in
-        let rest = stmts_fit b (behind_stands a here y mine ns.0 ts.0 ws.0) ys more in (
+        let b = after_at p a y in
+        let more : Placed p x b.next (declared_in_all ys) = subst (λ n. Placed p x n (declared_in_all ys)) (sym (after_next p a y)) (placed_right p x a.next (declared_in y) (declared_in_all ys) placed) in
+        let rest = stmts_fit b (after_stands a here y mine ns.0 ts.0 ws.0) ys more in (
           stmt_fits a here y mine ns.0 ts.0 ws.0,
-          all_fine_in b (behind (env_at p a) y) (behind_env p a y) (scopes.behind (U a) y) (behind_scope p static false a y) (scopes.behind (T a) y) (behind_scope p static static a y) ys rest ns.1 ts.1 ws.1,
+          all_fine_in b (behind (env_at p a) y) (after_env p a y) (scopes.behind (U a) y) (after_scope p static false a y) (scopes.behind (T a) y) (after_scope p static static a y) ys rest ns.1 ts.1 ws.1,
         )

@@ -1,4 +1,4 @@
--- What is assigned along elaborated code, piece by piece. What is assigned before it is assigned behind it.
+-- What is assigned along elaborated code, piece by piece. What is assigned before it is assigned after it.
 use Rattle.std.proofs.Common.{◌≡◌, ℕ, List, [], ◌∷◌, ◌++◌, map, Bool, true, false, Option, Some, None, refl, sym, ◌∙◌, ap, subst}
 use Rattle.std.specs.Prelude.{◌&&◌, ◌||◌, reverse, option_to_list}
 use Rattle.std.specs.List.{list_all}
@@ -140,18 +140,18 @@ module _ (y : core.BodyTree) where
         ends = subst (Ends Q) (sym (at_end-append assigned_flow xs ys (Some k))) r.ends;
       }
 
-  -- more behind the one and the other
+  -- more after the one and the other
   pub more_join : (k : Known) (xs ys : Code) → Flows k xs (More k) → ((l : Known) → More k l → Flows l ys (More l)) → Flows k (xs ++ ys) (More k)
   more_join k xs ys h g = join k (More k) (More k) xs ys h (λ l more. weaken l (More l) (More k) ys (λ m i. further k l m more i) (g l more))
 
   pub empty : (k : Known) (P : Known → Type 0) → P k → Flows k [] P
   empty k P h = record { checks = refl; ends = h }
 
-  abbrev behind_step : core.StmtTree → Known → Known
-  behind_step x k = λ z. is_target x z || k z
+  abbrev after_step : core.StmtTree → Known → Known
+  after_step x k = λ z. is_target x z || k z
 
   -- neither an `if`, a loop, a return, an unpack nor a pack
-  pub step : (k : Known) (P : Known → Type 0) (x : core.StmtTree) → is_step x ≡ true → ReadsAll k (evaluated x) → P (behind_step x k) → Flows k (x ∷ []) P
+  pub step : (k : Known) (P : Known → Type 0) (x : core.StmtTree) → is_step x ≡ true → ReadsAll k (evaluated x) → P (after_step x k) → Flows k (x ∷ []) P
   step k P (IfStmt p e a b) is h g = absurd (false≢true is)
   step k P (LoopStmt p invariants prelude e body exposes) is h g = absurd (false≢true is)
   step k P (UnpackStmt p z t) is h g = absurd (false≢true is)

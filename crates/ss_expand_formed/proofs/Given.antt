@@ -55,7 +55,7 @@ module _ (p : ProgramTree) (faultless : program_faults p ≡ []) (x : Context) (
   abbrev P : TypedTree
   P = resolved p
 
-  -- a place of the body outside quantifiers, behind its parameters
+  -- a place of the body outside quantifiers, after its parameters
   pub record Stands (a : At) : Type 0 where
     pub place : IsPlace p x static false false a
     pub unbound : a.bound ≡ 0

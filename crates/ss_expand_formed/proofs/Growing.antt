@@ -1,4 +1,4 @@
--- Elaboration adds temporaries behind those that are made so far.
+-- Elaboration adds temporaries after those that are made so far.
 use Rattle.std.proofs.Common.{◌≡◌, ℕ, zero, suc, List, [], ◌∷◌, ◌++◌, length, Some, refl}
 use Rattle.std.specs.Prelude.{◌&&◌, slice_get}
 use Rattle.ss_core.specs.declared.names.Place.{Place}
@@ -32,7 +32,7 @@ begins_append (u ∷ ts) us (suc i) t h = begins_append ts us i t h
 pub then_begins : (ts us vs : List Ty) → Begins ts us → Begins us vs → Begins ts vs
 then_begins ts us vs h g i t e = g i t (h i t e)
 
--- the one behind the list
+-- the one after the list
 pub last_at : (ts : List Ty) (t : Ty) → slice_get (ts ++ t ∷ []) (length ts) ≡ Some t
 last_at [] t = refl
 last_at (u ∷ ts) t = last_at ts t

@@ -1,4 +1,4 @@
--- Elaborated statements add temporaries behind those that are made so far.
+-- Elaborated statements add temporaries after those that are made so far.
 use Rattle.std.proofs.Common.{ℕ, List, [], ◌∷◌, ◌++◌, Bool, Option, Some, None, sym, subst}
 use Rattle.std.specs.Prelude.{◌==◌, ◌||◌, if◌then◌else◌, pos}
 use Rattle.ss_core.specs.declared.names.Place.{Place}
@@ -17,7 +17,7 @@ use Rattle.ss_expand_rules.specs.Program.{above_of}
 use Rattle.ss_typed.specs.Lookups.{constructor_of, param_types_in}
 use Rattle.ss_expand_rules.specs.Code.{Coded, nothing, then_code}
 use Rattle.ss_expand_rules.specs.Lifting.{Opened, ElaborationContext, Lifted, Listed, next, temporary_type, any_object, in_temporaries, right_side, value, arguments_of}
-use Rattle.ss_expand_rules.specs.Simple.{assign_settled, Settled, settle_lifted, settle_part, settle, assign_behind, assign, update, assignment, step_operator, declared_as, declare, print, ready_behind, base_with, base_of, simple}
+use Rattle.ss_expand_rules.specs.Simple.{assign_settled, Settled, settle_lifted, settle_part, settle, assign_after, assign, update, assignment, step_operator, declared_as, declare, print, ready_after, base_with, base_of, simple}
 use Rattle.ss_expand_rules.specs.Ends.{can_end, block_can_end}
 use Rattle.ss_expand_rules.specs.Statements.{loop_while, begin, advance, result_type, leave_value, leave, exposed_class, within, opened, expose_lifted, stmt, block, stmts}
 use Rattle.ss_expand_formed.proofs.Choosing.{on_either}
@@ -47,18 +47,18 @@ settle_begins s (FieldOf p o f t) made = part_begins s o made
 settle_begins s (ElementOf p a i) made = then_begins made (settle_part s a made).made _ (part_begins s a made) (part_begins s i (settle_part s a made).made)
 settle_begins s target made = begins_itself made
 
-pub behind_begins : (s : ElaborationContext) (e : ExprTree) (made : List Ty) (t : Settled) → Begins made t.made → Begins made (assign_behind s e t).made
-behind_begins s e made t h = then_begins made t.made _ h (settled_begins s t.target e t.made)
+pub after_begins : (s : ElaborationContext) (e : ExprTree) (made : List Ty) (t : Settled) → Begins made t.made → Begins made (assign_after s e t).made
+after_begins s e made t h = then_begins made t.made _ h (settled_begins s t.target e t.made)
 
 assign_begins : (s : ElaborationContext) (target e : ExprTree) → Codes (assign s target e)
 assign_begins s target e made =
-    on_either (λ (c : Coded). Begins made c.made) (has_call target || has_call e) (assign_behind s e (settle s target made)) (assign_settled s target e made)
-    (behind_begins s e made (settle s target made) (settle_begins s target made)) (settled_begins s target e made)
+    on_either (λ (c : Coded). Begins made c.made) (has_call target || has_call e) (assign_after s e (settle s target made)) (assign_settled s target e made)
+    (after_begins s e made (settle s target made) (settle_begins s target made)) (settled_begins s target e made)
 
 update_begins : (s : ElaborationContext) (o : Operator) (target e : ExprTree) → Codes (update s o target e)
 update_begins s o target e made =
     let t = settle s target made in
-    behind_begins s (BinaryOf (place_of t.target) o t.target e) made t (settle_begins s target made)
+    after_begins s (BinaryOf (place_of t.target) o t.target e) made t (settle_begins s target made)
 
 assignment_begins : (s : ElaborationContext) (target : ExprTree) (o : AssignOperator) (e : ExprTree) → Codes (assignment s target o e)
 assignment_begins s target operator.Set e made = assign_begins s target e made
@@ -77,7 +77,7 @@ declare_begins s (d ∷ ds) made = then_begins made (declared_as s d d.initial m
 base_begins : (s : ElaborationContext) (p : Place) (es : Arguments) (t : ℕ) → Codes (base_of s p es t)
 base_begins s p es t made =
     let ts = param_types_in (constructor_of s.program t) in
-    on_either (λ (c : Coded). Begins made c.made) (t == 0) (record { code = ready_behind s p t; made = made }) (base_with s p t (arguments_of s ts es made)) (begins_itself made) (arguments_begin s ts es made)
+    on_either (λ (c : Coded). Begins made c.made) (t == 0) (record { code = ready_after s p t; made = made }) (base_with s p t (arguments_of s ts es made)) (begins_itself made) (arguments_begin s ts es made)
 
 print_begins : (s : ElaborationContext) (p : Place) (e : Option ExprTree) (line : Bool) → Codes (print s p e line)
 print_begins s p None line made = begins_itself made

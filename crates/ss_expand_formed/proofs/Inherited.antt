@@ -311,12 +311,12 @@ module _ (p : ProgramTree) (faultless : program_faults p ≡ []) (no_nulls : nul
       false≢true (sym other ∙ subst (λ (t : ClassTree). is_listed (method_names t.members) e.name ≡ true) tree x.listed) in
       let none = declares_other p (4 + 2 * k) m b (method_here p k c at m e h ∙ x.is) apart in
       let over : declarations (resolved p) (number_or_object (above p.classes k)) m ≡ x.before ++ b ∷ [] = ap (λ o. declarations (resolved p) (number_or_object o) m) up ∙ x.declared in
-      let all : declarations (resolved p) (4 + 2 * k) m ≡ x.before ++ b ∷ [] = declarations_step p faultless k m (slice_get_within p.classes k c at) ∙ ap (λ bs. bs ++ declared_last (declares (resolved p) m (4 + 2 * k))) over ∙ ap (λ o. (x.before ++ b ∷ []) ++ declared_last o) none ∙ nothing_behind (x.before ++ b ∷ []) in
+      let all : declarations (resolved p) (4 + 2 * k) m ≡ x.before ++ b ∷ [] = declarations_step p faultless k m (slice_get_within p.classes k c at) ∙ ap (λ bs. bs ++ declared_last (declares (resolved p) m (4 + 2 * k))) over ∙ ap (λ o. (x.before ++ b ∷ []) ++ declared_last o) none ∙ nothing_after (x.before ++ b ∷ []) in
       record { class = x.class; tree = x.tree; method = x.method; there = x.there; listed = x.listed; is = x.is; in_class = x.in_class; before = x.before; declared = all; own = x.own; alike = x.alike }
     where
-      nothing_behind : (xs : List BodyTree) → xs ++ [] ≡ xs
-      nothing_behind [] = refl
-      nothing_behind (y ∷ ys) = ap (λ zs. y ∷ zs) (nothing_behind ys)
+      nothing_after : (xs : List BodyTree) → xs ++ [] ≡ xs
+      nothing_after [] = refl
+      nothing_after (y ∷ ys) = ap (λ zs. y ∷ zs) (nothing_after ys)
 
   -- it has a method of its own in its place
   replaced : (k j : ℕ) (c : ClassTree) → slice_get p.classes k ≡ Some c → above p.classes k ≡ Some j → (m : ℕ) (e x : core.EntryTree) → slice_get (table p.classes k) m ≡ Some x → slice_get (table p.classes j) m ≡ Some e → declared_entry p.classes k e.name ≡ x →

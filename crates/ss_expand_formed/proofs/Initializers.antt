@@ -1,4 +1,4 @@
--- The beginnings of fields keep nulls out, each with what the phase of null knows behind those before it.
+-- The beginnings of fields keep nulls out, each with what the phase of null knows after those before it.
 use Rattle.std.proofs.Common.{◌≡◌, ℕ, zero, suc, ◌+◌, ◌-◌, ◌*◌, ◌<◌, ◌≤◌, List, [], ◌∷◌, length, map, take, Bool, true, false, Option, Some, None, refl, sym, ◌∙◌, ap, subst, arith, ⊎_elim}
 use Rattle.std.specs.Prelude.{◌&&◌, ◌==◌, nat_le, nat_lt, slice_get, sum_by, option_map, is_some, if◌then◌else◌}
 use Rattle.std.proofs.lemmas.Bool.{and_parts, and_from, cases_lt, eq-eqb, ltb-true, le-leb, lt-ltb, false≢true}
@@ -28,7 +28,7 @@ use Rattle.ss_expand_formed.proofs.OwnFields.{own_at, first_number}
 use Rattle.ss_expand_formed.proofs.Starts.{own_is, fields_are}
 use Rattle.ss_expand_formed.specs.Fitting.{Frame, simple_fits, all_fitting, Agrees, Builds}
 use Rattle.ss_expand_formed.specs.Bodies.{nothing_known}
-use Rattle.ss_expand_formed.proofs.Seams.{Less, HoldFrom, from_less, behind_simple}
+use Rattle.ss_expand_formed.proofs.Seams.{Less, HoldFrom, from_less, after_simple}
 
 -- ---- sets of fields
 
@@ -86,11 +86,11 @@ module _ (p : ProgramTree) (k : ℕ) (c : ClassTree) (at : slice_get p.classes k
   abbrev made : FieldTree → typed.FieldTree
   made f = field_member (class_env p.classes k) f
 
-  -- what the phase knows behind so many of the beginnings
+  -- what the phase knows after so many of the beginnings
   abbrev begun : ℕ → source.Known
   begun j = record { facts = none; fields = record { own = λ i. nat_lt i j && has_initializer q t i; above = false } }
 
-  -- and behind all of them
+  -- and after all of them
   abbrev pub all_initialized : source.Known
   all_initialized = record { facts = none; fields = assigned_by_initializers q t }
 
@@ -125,7 +125,7 @@ module _ (p : ProgramTree) (k : ℕ) (c : ClassTree) (at : slice_get p.classes k
         let a = (begun j).fields in
         let filled : (i : ℕ) → (begun (j + 1)).fields.own i ≡ true → (source.known_done z.context x (begun j)).fields.own i ≡ true = λ i own.
         ap (λ (v : Bool). (if v then put (f - ns.first) true a.own else a.own) i) among ∙ ap (λ y. put y true a.own i) place ∙ put_more (has_initializer q t) j i own in
-        behind_simple z agrees builds (begun j) (begun (j + 1)) x (before_all rest more) both.0 (subst (λ s. done_faults s x (Some (begun j)) ≡ []) (sym context) clean)
+        after_simple z agrees builds (begun j) (begun (j + 1)) x (before_all rest more) both.0 (subst (λ s. done_faults s x (Some (begun j)) ≡ []) (sym context) clean)
         (record { facts = λ y i. i; fields = λ g o h. own_less ns g (begun (j + 1)).fields (source.known_done z.context x (begun j)).fields filled (λ i. i) h })
         (go both.1)
 
@@ -159,8 +159,8 @@ module _ (p : ProgramTree) (k : ℕ) (c : ClassTree) (at : slice_get p.classes k
         let zero_more : 0 + length gs ≡ length gs = omega arith in
         from_place 0 n.first gs (omega arith) (omega arith) (λ i x e. let y : 0 + i ≡ i = omega arith in rw y (ap (λ fs. slice_get fs i) is ∙ e)) clean fit more (subst (λ i. HoldFrom z (begun i) more) (sym zero_more) go)
 
-    pub behind_initializers : nulls.initializers_from q t 0 (members p.classes k c).fields (own_fields q t) ≡ [] → all_fitting z (initializers q t) ≡ true → (more : StmtTrees) → HoldFrom z all_initialized more → HoldFrom z nothing_known (before_all (initializers q t) more)
-    behind_initializers clean fit more go =
+    pub after_initializers : nulls.initializers_from q t 0 (members p.classes k c).fields (own_fields q t) ≡ [] → all_fitting z (initializers q t) ≡ true → (more : StmtTrees) → HoldFrom z all_initialized more → HoldFrom z nothing_known (before_all (initializers q t) more)
+    after_initializers clean fit more go =
         let gs = fields_in c.members in
         let pure : nulls.initializers_from q t 0 (map made gs) (map (field p.classes) gs) ≡ [] = ap (nulls.initializers_from q t 0 (map made gs)) (sym (own_is p k c at)) ∙ clean in
         let last : Less z all_initialized (begun (length gs)) = record { facts = λ x i. i; fields = λ f o h. own_less ns f all_initialized.fields (begun (length gs)).fields (λ i own. and_from _ _ (lt-ltb i (length gs) (starts_within i own)) own) (λ i. i) h } in

@@ -25,7 +25,7 @@ use Rattle.ss_expand_rules.specs.Statements.{stmts}
 use Rattle.ss_expand_rules.specs.Contracts.{first_param, declarations}
 use Rattle.ss_paths.specs.Fields.{field_numbers}
 use Rattle.ss_paths.specs.Opening.{is_first}
-use Rattle.ss_expand_rules.specs.Constructors.{before_all, initialize, initializers_from, initializers_in, initializers, behind_initial, base_alone, with_base, implicit_constructor}
+use Rattle.ss_expand_rules.specs.Constructors.{before_all, initialize, initializers_from, initializers_in, initializers, after_initial, base_alone, with_base, implicit_constructor}
 use Rattle.ss_typed.specs.Shapes.{closing_brace, in_block, has_base}
 use Rattle.ss_expand_rules.specs.Bodies.{first_copy, copying_from, copying, statements, elaboration_context, temporary_count, code, written_body}
 use Rattle.ss_store_rules.specs.Locals.{each}
@@ -45,7 +45,7 @@ use Rattle.ss_expand_formed.proofs.Sources.{of_each}
 use Rattle.ss_expand_formed.proofs.ConstructionWritten.{copies_pass}
 use Rattle.ss_expand_formed.proofs.Uses.{other, Fine, AreFine, fine, stays, behaves, fine_keeps}
 use Rattle.ss_expand_formed.proofs.ReadLocals.{Others, IsInside, expr_other, block_other}
-use Rattle.ss_expand_formed.proofs.Fine.{less, FineSimple, block_fine, simple_keeps, statements_keep, behind_this}
+use Rattle.ss_expand_formed.proofs.Fine.{less, FineSimple, block_fine, simple_keeps, statements_keep, after_this}
 
 -- ---- lists of statements
 
@@ -57,15 +57,15 @@ module _ (G : typed.SimpleTree → Type 0) (F : ExprTree → Type 0) where
   pub along_block : (b : BlockTree) → InAll G F b → Along G F (in_block b)
   along_block (BlockOf q ss end) h = h
 
-  along_run : (p : TypedTree) (t : ℕ) (s : StmtTree) (ss : StmtTrees) → At G F s → Along G F ss → Along G F (behind_initial p t s ss)
+  along_run : (p : TypedTree) (t : ℕ) (s : StmtTree) (ss : StmtTrees) → At G F s → Along G F ss → Along G F (after_initial p t s ss)
   along_run p t s NoMore h g = (h, tt)
-  along_run p t s (Before x xs) h g = where_chosen (Along G F) (is_first p t x) (Before x (behind_initial p t s xs)) (Before s (Before x xs)) (λ yes. (g.0, along_run p t s xs h g.1)) (λ no. (h, g))
+  along_run p t s (Before x xs) h g = where_chosen (Along G F) (is_first p t x) (Before x (after_initial p t s xs)) (Before s (Before x xs)) (λ yes. (g.0, along_run p t s xs h g.1)) (λ no. (h, g))
 
   pub along_base : (p : TypedTree) (b : BodyTree) (base : Option BaseTree) (ss : StmtTrees) → ((q : Place) → G (BaseCallOf q (delayed.arguments_of base))) → ((q : Place) → G (BaseCallOf q typed.Arguments.NoMore)) → Along G F ss → Along G F (with_base p b base ss)
   along_base p b (Some base) ss given none h = (given base.place, h)
   along_base p b None ss given none h =
-      where_chosen (Along G F) (has_base ss) ss (if b.flags.delayed then Before (base_alone b) ss else behind_initial p b.class (base_alone b) ss) (λ yes. h)
-      (λ no. where_chosen (Along G F) b.flags.delayed (Before (base_alone b) ss) (behind_initial p b.class (base_alone b) ss) (λ late. (none b.place, h)) (λ early. along_run p b.class (base_alone b) ss (none b.place) h))
+      where_chosen (Along G F) (has_base ss) ss (if b.flags.delayed then Before (base_alone b) ss else after_initial p b.class (base_alone b) ss) (λ yes. h)
+      (λ no. where_chosen (Along G F) b.flags.delayed (Before (base_alone b) ss) (after_initial p b.class (base_alone b) ss) (λ late. (none b.place, h)) (λ early. along_run p b.class (base_alone b) ss (none b.place) h))
 
 pub no_escapes : (ps : List Place) → escapes ps ≡ [] → ps ≡ []
 no_escapes [] h = refl
@@ -139,7 +139,7 @@ module _ (p : TypedTree) (b : BodyTree) (static : b.flags.is_static ≡ false) w
   pub keeps_this : Along (FineSimple ForFields) (Fine ForFields) (statements p b) → each keeps_this_in (code_of (code p b)) ≡ true
   keeps_this h =
       let z = elaboration_context p b (temporary_count p b) in
-      let n = behind_this b static (temporary_count p b) in
+      let n = after_this b static (temporary_count p b) in
       let keeps = fine_keeps ForFields b.class z.numbers n in
       let more = simple_keeps z.numbers n b.class in
       each-append keeps_this_in (copying b) (stmts z (statements p b) []).code (copies_behave ForFields)

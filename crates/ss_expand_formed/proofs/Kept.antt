@@ -10,7 +10,7 @@ use Rattle.ss_store_rules.specs.NonNull.{Known, is_non_null_type, with_local, wi
 
 -- ---- any kind of knowledge
 
--- Something holds behind code, where it holds before, if the statements that pass a test keep it.
+-- Something holds after code, where it holds before, if the statements that pass a test keep it.
 module _ {S : Type 0} (f : Flow S) (P : S → Bool) (test : StmtTree → Bool)
     (after : (s : StmtTree) (k : S) → each_inside test s ≡ true → P k ≡ true → P (f.after s k) ≡ true)
     (tested : (e : ExprTree) (v : Bool) (k : S) → P k ≡ true → P (f.tested e v k) ≡ true)
@@ -30,25 +30,25 @@ module _ {S : Type 0} (f : Flow S) (P : S → Bool) (test : StmtTree → Bool)
   left_if false k h = h
 
   mutual
-    behind_keeps : (s : StmtTree) (k : S) → each_inside test s ≡ true → P k ≡ true → where_reached P (behind f s k) ≡ true
-    behind_keeps (IfStmt p e a b) k t h =
+    after_keeps : (s : StmtTree) (k : S) → each_inside test s ≡ true → P k ≡ true → where_reached P (behind f s k) ≡ true
+    after_keeps (IfStmt p e a b) k t h =
         let both = and_parts (test (IfStmt p e a b) && each test a) (each test b) t in
         let front = and_parts (test (IfStmt p e a b)) (each test a) both.0 in
         met_keeps _ _ (keeps a (Some (f.tested e true k)) front.1 (tested e true k h)) (keeps b (Some (f.tested e false k)) both.1 (tested e false k h))
-    behind_keeps (LoopStmt p is prelude e body os) k t h =
+    after_keeps (LoopStmt p is prelude e body os) k t h =
         let s = LoopStmt p is prelude e body os in
         let both = and_parts (test s && each test prelude) (each test body) t in
         let front = and_parts (test s) (each test prelude) both.0 in
         left_if (is_literal_true e) _ (tested_keeps e false _ (keeps prelude (Some (f.head s k)) front.1 (head s k t h)))
-    behind_keeps (ReturnStmt p e) k t h = refl
-    behind_keeps s k t h = after s k t h
+    after_keeps (ReturnStmt p e) k t h = refl
+    after_keeps s k t h = after s k t h
 
     pub keeps : (code : CodeTree) (k : Option S) → each test code ≡ true → where_reached P k ≡ true → where_reached P (at_end f code k) ≡ true
     keeps NoCode k t h = h
     keeps (Then s code) None t h = refl
     keeps (Then s code) (Some k) t h =
         let both = and_parts (each_inside test s) (each test code) t in
-        keeps code (behind f s k) both.1 (behind_keeps s k both.0 h)
+        keeps code (behind f s k) both.1 (after_keeps s k both.0 h)
 
 -- ---- locals and fields
 
@@ -117,7 +117,7 @@ module _ (c : CoreTree) (b : BodyTree) where
   after_fields f (ReadyStmt p) k h = refl
   after_fields f s k h = h
 
-  -- a field that has its value has it behind any code
+  -- a field that has its value has it after any code
   pub fields_kept : (f : ℕ) (code : CodeTree) (k : Option Known) → where_reached (λ (z : Known). z.fields f) k ≡ true → where_reached (λ (z : Known). z.fields f) (at_end (known_flow c b) code k) ≡ true
   fields_kept f code k h =
       keeps (known_flow c b) (λ (z : Known). z.fields f) (λ s. true) (λ s k u h. after_fields f s k h) (λ e v k h. h) (λ k l h i. and_from _ _ h i) (λ s k u h. h) code k (each_true code) h

@@ -1,4 +1,4 @@
--- Assignments keep nulls out, and behind them the elaboration knows what the phase of null knows.
+-- Assignments keep nulls out, and after them the elaboration knows what the phase of null knows.
 use Rattle.std.proofs.Common.{◌≡◌, ℕ, ◌≤◌, List, [], ◌∷◌, ◌++◌, Bool, true, false, Option, Some, refl, sym, ◌∙◌, ap, arith}
 use Rattle.std.specs.Prelude.{not, ◌==◌, ◌&&◌, ◌||◌, if◌then◌else◌, is_some}
 use Rattle.std.proofs.lemmas.Bool.{and_parts, and_from, or_right, ne_eqb, false≢true}
@@ -20,7 +20,7 @@ use Rattle.ss_expand_rules.specs.Calls.{has_call}
 use Rattle.ss_typed.specs.Shapes.{is_this, place_of}
 use Rattle.ss_expand_rules.specs.Program.{field_at}
 use Rattle.ss_expand_rules.specs.Lifting.{Opened, ElaborationContext, Lifted, next, temporary_type, any_object, right_side, value}
-use Rattle.ss_expand_rules.specs.Simple.{assign_settled, Settled, settle_lifted, settle_part, settle, assign_behind, assign, update}
+use Rattle.ss_expand_rules.specs.Simple.{assign_settled, Settled, settle_lifted, settle_part, settle, assign_after, assign, update}
 use Rattle.ss_store_rules.specs.Admissible as admissible
 use Rattle.ss_store_rules.specs.Changes.{field_type}
 use Rattle.ss_store_rules.specs.Good.{is_non_null}
@@ -78,7 +78,7 @@ module _ (z : Frame) (agrees : Agrees z) (os : List Opened) where
       by false i = refl
 
   reads_temporary : (p : Place) (x : ℕ) (t : Ty) (f : ℕ) → z.numbers.first_temporary ≤ x → reads_set z (LocalOf p x t) f ≡ true
-  reads_temporary p x t f h = by z.body.flags.ctor (λ c. let l = agrees.behind_this c in let e = agrees.past x h in ne_eqb (number z.numbers x) 0 (λ i. omega arith))
+  reads_temporary p x t f h = by z.body.flags.ctor (λ c. let l = agrees.after_this c in let e = agrees.past x h in ne_eqb (number z.numbers x) 0 (λ i. omega arith))
     where
       by : (c : Bool) → (c ≡ true → (number z.numbers x == 0) ≡ false) → (not c || false && z.fields f || z.free || not (number z.numbers x == 0)) ≡ true
       by true g = rw (g refl) (or_right (false && z.fields f || z.free) true refl)
@@ -160,7 +160,7 @@ module _ (z : Frame) (agrees : Agrees z) (os : List Opened) where
   settled_known k c h (ElementOf p b i) e made a m = element_known k c p b i e made h a.right a.clean m
   settled_known k c h l e made a m = nowhere_known k c e made h a.right a.clean m
 
-  behind_known : (k : source.Known) (c : Known) → Covers z k c → (l e : ExprTree) (made : List Ty) → Asked k l e → HasMade z (assign_behind s e (settle s l made)).made → Done z agrees c (assigned l e k) (assign_behind s e (settle s l made)).code
+  behind_known : (k : source.Known) (c : Known) → Covers z k c → (l e : ExprTree) (made : List Ty) → Asked k l e → HasMade z (assign_after s e (settle s l made)).made → Done z agrees c (assigned l e k) (assign_after s e (settle s l made)).code
   behind_known k c h (FieldOf p o f t) e made a m =
       let d = settle_part s o made in
       let fit = and_parts (implied (fields.is_non_null t) (is_non_null (field_type z.program.classes f))) (reads_set z o f && fits z o) a.left in
@@ -180,7 +180,7 @@ module _ (z : Frame) (agrees : Agrees z) (os : List Opened) where
   pub assign_known : (k : source.Known) (c : Known) → Covers z k c → (l e : ExprTree) (made : List Ty) → Asked k l e → HasMade z (assign s l e made).made → Done z agrees c (assigned l e k) (assign s l e made).code
   assign_known k c h l e made a m = by (has_call l || has_call e) m
     where
-      by : (b : Bool) → HasMade z (if b then assign_behind s e (settle s l made) else assign_settled s l e made).made → Done z agrees c (assigned l e k) (if b then assign_behind s e (settle s l made) else assign_settled s l e made).code
+      by : (b : Bool) → HasMade z (if b then assign_after s e (settle s l made) else assign_settled s l e made).made → Done z agrees c (assigned l e k) (if b then assign_after s e (settle s l made) else assign_settled s l e made).code
       by true m = behind_known k c h l e made a m
       by false m = settled_known k c h l e made a m
 

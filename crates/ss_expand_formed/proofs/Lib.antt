@@ -109,7 +109,7 @@ pub mod Answered
 pub mod Methods
 pub mod CallsSound
 pub mod CallCases
-pub mod CallsBehind
+pub mod CallsAfter
 pub mod CallsFit
 pub mod Calls
 pub mod Exact
@@ -180,7 +180,7 @@ pub mod NullsInSources
 pub mod NullsInBodies
 pub mod TypedLaw
 pub mod Seams
-pub mod BehindBase
+pub mod AfterBase
 pub mod Refit
 pub mod Initial
 pub mod NullsReading

@@ -99,7 +99,7 @@ module _ (z : Frame) (agrees : Agrees z) where
           never = λ i. or_right _ _ (fact ∙ h.never i);
         };
         held = λ i. record { place = p; local = x; is = refl; below = omega arith; fact = fact ∙ h.never i };
-        other = not_this x (λ c. let l = agrees.behind_this c in omega arith);
+        other = not_this x (λ c. let l = agrees.after_this c in omega arith);
       }
 
   pub valued_known : (k : source.Known) (l : Known) (e : ExprTree) (d : Lifted) → Lifts k l e d → HasMade z (valued ns e d).made → Values k l e (valued ns e d)
@@ -172,7 +172,7 @@ module _ (z : Frame) (agrees : Agrees z) where
           record {
             values = valued_known k l e (f made) d m;
             held = λ n. lazy_never e parts.0 k n;
-            other = λ c. lazy_other k l e (f made) parts.0 d (λ c. let l = agrees.behind_this c in omega arith) c;
+            other = λ c. lazy_other k l e (f made) parts.0 d (λ c. let l = agrees.after_this c in omega arith) c;
           }
       by false i m =
           let d = lifted_of ns e f made in
@@ -199,7 +199,7 @@ module _ (z : Frame) (agrees : Agrees z) where
 
   -- ---- lazy operations
 
-  -- What is known behind `t = a; if (test of t) { t = b; }`, where k is known before it, and `more` where b is evaluated.
+  -- What is known after `t = a; if (test of t) { t = b; }`, where k is known before it, and `more` where b is evaluated.
   pub record Lazy (k more : source.Known) (l : Known) (b : ExprTree) (v : Bool) (d : Lifted) (x : ℕ) : Type 0 where
     pub now : Known
     pub runs : Runs z l d.code now

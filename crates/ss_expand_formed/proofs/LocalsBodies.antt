@@ -24,7 +24,7 @@ use Rattle.ss_typed.specs.Lookups.{members_of}
 use Rattle.ss_expand_rules.specs.Numbers.{number}
 use Rattle.ss_expand_rules.specs.Contracts.{first_param, declarations}
 use Rattle.ss_paths.specs.Opening.{is_first}
-use Rattle.ss_expand_rules.specs.Constructors.{before_all, initialize, initializers_from, initializers_in, initializers, behind_initial, base_alone, with_base, constructor_stmts, implicit_constructor}
+use Rattle.ss_expand_rules.specs.Constructors.{before_all, initialize, initializers_from, initializers_in, initializers, after_initial, base_alone, with_base, constructor_stmts, implicit_constructor}
 use Rattle.ss_typed.specs.Shapes.{closing_brace, in_block, has_base, local_of}
 use Rattle.ss_typed.specs.Assigned.{listed, put_locals, first_locals, step_locals, assigned, assigned_along}
 use Rattle.ss_paths.specs.Sets.{among}
@@ -139,9 +139,9 @@ module _ (block : BlockTree) where
       rw no (copying_goes t low first copy (x + 1) qs l n))
       (cases_Bool (block_assigns x block))
 
-behind_this : (static : Bool) (ms : List ℕ) (i : ℕ) → slice_get ((if static then [] else 0 ∷ []) ++ ms) ((if static then 0 else 1) + i) ≡ slice_get ms i
-behind_this true ms i = let e : 0 + i ≡ i = omega arith in ap (slice_get ms) e
-behind_this false ms i = let e : 1 + i ≡ suc i = omega arith in ap (slice_get (0 ∷ ms)) e
+after_this : (static : Bool) (ms : List ℕ) (i : ℕ) → slice_get ((if static then [] else 0 ∷ []) ++ ms) ((if static then 0 else 1) + i) ≡ slice_get ms i
+after_this true ms i = let e : 0 + i ≡ i = omega arith in ap (slice_get ms) e
+after_this false ms i = let e : 1 + i ≡ suc i = omega arith in ap (slice_get (0 ∷ ms)) e
 
 -- ---- written bodies
 
@@ -164,7 +164,7 @@ module _ (b : BodyTree) where
       let i = x - first_param b in
       let e : first_param b + i ≡ x = omega arith in
       let ms = meant_from b.block (first_copy b) (first_param b) b.params in
-      let looked : slice_get (meant b) x ≡ slice_get ms i = ap (slice_get (meant b)) (sym e) ∙ behind_this b.flags.is_static ms i in
+      let looked : slice_get (meant b) x ≡ slice_get ms i = ap (slice_get (meant b)) (sym e) ∙ after_this b.flags.is_static ms i in
       ⊎_elim
       (λ less.
       let r = meant_at b.block (first_copy b) (first_param b) b.params i (subst (λ y. block_assigns y b.block ≡ true) (sym e) is) less in
@@ -198,19 +198,19 @@ module _ (f g : ℕ → Bool) (p : TypedTree) where
   initial_pass t None = refl
   initial_pass t (Some m) = initializers_pass t _ m.fields
 
-  behind_initial_passes : (t : ℕ) (s : StmtTree) (ss : StmtTrees) → stmt_passes f g s ≡ true → all_pass f g ss ≡ true → all_pass f g (behind_initial p t s ss) ≡ true
-  behind_initial_passes t s NoMore h i = and_from _ _ h refl
-  behind_initial_passes t s (Before x xs) h i =
+  after_initial_passes : (t : ℕ) (s : StmtTree) (ss : StmtTrees) → stmt_passes f g s ≡ true → all_pass f g ss ≡ true → all_pass f g (after_initial p t s ss) ≡ true
+  after_initial_passes t s NoMore h i = and_from _ _ h refl
+  after_initial_passes t s (Before x xs) h i =
       let both = and_parts (stmt_passes f g x) (all_pass f g xs) i in
-      on_either (λ (z : StmtTrees). all_pass f g z ≡ true) (is_first p t x) (Before x (behind_initial p t s xs)) (Before s (Before x xs))
-      (and_from _ _ both.0 (behind_initial_passes t s xs h both.1))
+      on_either (λ (z : StmtTrees). all_pass f g z ≡ true) (is_first p t x) (Before x (after_initial p t s xs)) (Before s (Before x xs))
+      (and_from _ _ both.0 (after_initial_passes t s xs h both.1))
       (and_from _ _ h i)
 
   with_base_passes : (b : BodyTree) (base : Option BaseTree) (ss : StmtTrees) → all_pass f g ss ≡ true → all_pass f g (with_base p b base ss) ≡ true
   with_base_passes b (Some base) ss h = h
   with_base_passes b None ss h =
-      on_either (λ (z : StmtTrees). all_pass f g z ≡ true) (has_base ss) ss (if b.flags.delayed then Before (base_alone b) ss else behind_initial p b.class (base_alone b) ss) h
-      (on_either (λ (z : StmtTrees). all_pass f g z ≡ true) b.flags.delayed (Before (base_alone b) ss) (behind_initial p b.class (base_alone b) ss) h (behind_initial_passes b.class (base_alone b) ss refl h))
+      on_either (λ (z : StmtTrees). all_pass f g z ≡ true) (has_base ss) ss (if b.flags.delayed then Before (base_alone b) ss else after_initial p b.class (base_alone b) ss) h
+      (on_either (λ (z : StmtTrees). all_pass f g z ≡ true) b.flags.delayed (Before (base_alone b) ss) (after_initial p b.class (base_alone b) ss) h (after_initial_passes b.class (base_alone b) ss refl h))
 
   with_return_passes : (b : BodyTree) (r : Option Ty) (ss : StmtTrees) → all_pass f g ss ≡ true → all_pass f g (with_return b r ss) ≡ true
   with_return_passes b None ss h = all_pass-append f g ss (Before (typed.ReturnOf (closing_brace b.block) None) NoMore) h refl
@@ -253,7 +253,7 @@ this_length false t = refl
 arguments_length : (ts : List Ty) (us : List core.LocalTree) → length (ts ++ map (λ (l : core.LocalTree). l.ty) us) ≡ length ts + length us
 arguments_length ts us = length-append ts (map (λ (l : core.LocalTree). l.ty) us) ∙ ap (λ n. length ts + n) (length-map us (λ (l : core.LocalTree). l.ty))
 
--- the number of a body's first temporary, behind its arguments, its own locals and its copies
+-- the number of a body's first temporary, after its arguments, its own locals and its copies
 own_length : (p : TypedTree) (b : BodyTree) (bs : List BodyTree) → length (written_body p b bs).locals ≡ length b.locals + length (assigned_params b) + temporary_count p b
 own_length p b bs =
     length-append (b.locals ++ copies b) (temporaries_from 0 (temporary_types p b))
@@ -266,7 +266,7 @@ count_arguments p b bs =
     ∙ ap (λ n. n + length (map param_of b.params)) (this_length b.flags.is_static (ty.Ref (record { 0 = b.class }) true))
     ∙ ap (λ n. first_param b + n) (length-map b.params param_of)
 
--- The result stands behind the temporaries, where the code means it.
+-- The result stands after the temporaries, where the code means it.
 pub count_locals : (p : TypedTree) (b : BodyTree) (bs : List BodyTree) → result_number (written_body p b bs) ≡ first b + temporary_count p b
 count_locals p b bs =
     let own = own_length p b bs in
@@ -277,7 +277,7 @@ options_length : (r : Option Ty) → length (option_to_list r) ≡ results r
 options_length None = refl
 options_length (Some t) = refl
 
--- Behind all locals stand the bound names.
+-- After all locals stand the bound names.
 pub count_all : (p : TypedTree) (b : BodyTree) (bs : List BodyTree) → length (local_types (written_body p b bs)) ≡ first b + temporary_count p b + results b.result
 count_all p b bs =
     let y = written_body p b bs in

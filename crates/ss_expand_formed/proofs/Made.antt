@@ -24,7 +24,7 @@ use Rattle.ss_expand_rules.specs.Program.{table, method_at, above_of}
 use Rattle.ss_typed.specs.Lookups.{body_at, constructor_in, constructor_of, members_of, param_types_in}
 use Rattle.ss_expand_rules.specs.Code.{Coded, nothing, then_code}
 use Rattle.ss_expand_rules.specs.Lifting.{Opened, ElaborationContext, Source, Pure, Created, CreatedArray, Called, Lifted, Valued, Listed, unlifted, next, temporary_type, any_object, in_temporary, valued_from, valued, lifted_of, operand, unary, binary, lazily, holds, fails, negated, operation, first_type, other_types, no_operands, operands_of, and_operands, static_class, types_of_constructor, types_of_written, types_of_method, lifted, in_temporaries, right_side, value, arguments_of}
-use Rattle.ss_expand_rules.specs.Simple.{assign_settled, Settled, settle_lifted, settle_part, settle, assign_behind, assign, update, assignment, step_operator, declared_as, declare, print, ready_behind, base_with, base_of, simple}
+use Rattle.ss_expand_rules.specs.Simple.{assign_settled, Settled, settle_lifted, settle_part, settle, assign_after, assign, update, assignment, step_operator, declared_as, declare, print, ready_after, base_with, base_of, simple}
 use Rattle.ss_expand_rules.specs.Ends.{can_end, block_can_end}
 use Rattle.ss_expand_rules.specs.Statements.{loop_while, begin, advance, result_type, leave_value, leave, exposed_class, within, opened, expose_lifted, stmt, block, stmts}
 use Rattle.ss_expand_formed.proofs.Facts.{all_at}
@@ -228,7 +228,7 @@ module _ (C : List core.ClassTree) where
     assign_made : (target e : ExprTree) → Ok target → Ok e → Codes (assign s target e)
     assign_made target e x y made k =
         let t = settle s target made in
-        on_either (λ (c : Coded). K c.made) (has_call target || has_call e) (assign_behind s e t) (assign_settled s target e made)
+        on_either (λ (c : Coded). K c.made) (has_call target || has_call e) (assign_after s e t) (assign_settled s target e made)
         (assign_settled_made t.target e y t.made (settle_made target x made k).0)
         (assign_settled_made target e y made k)
 
@@ -263,7 +263,7 @@ module _ (C : List core.ClassTree) where
     base_made : (p : Place) (es : Arguments) (t : ℕ) → have_types C es ≡ true → Codes (base_of s p es t)
     base_made p es t g made k =
         let ts = param_types_in (constructor_of s.program t) in
-        on_either (λ (c : Coded). K c.made) (t == 0) (record { code = ready_behind s p t; made = made }) (base_with s p t (arguments_of s ts es made)) k
+        on_either (λ (c : Coded). K c.made) (t == 0) (record { code = ready_after s p t; made = made }) (base_with s p t (arguments_of s ts es made)) k
         (operands_made s es (in_temporaries s ts es) (all_made ts (constructor_types s.program fit.bodies t) es g) made k)
 
     simple_made : (x : SimpleTree) → simple_typed C x ≡ true → Codes (simple s x)

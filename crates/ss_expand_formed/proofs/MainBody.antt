@@ -68,12 +68,12 @@ not_again t before (x ∷ ns) h l (suc i) n e same =
     let both = none_left (twice before x) (twice_among (with_name before x.text) ns) h in
     not_again t (with_name before x.text) ns both.1 (still t before x.text l) i n e same
 
--- behind some names
-behind_names : (before : List (List ℕ)) (xs ys : List NameTree) → twice_among before (xs ++ ys) ≡ [] → (now : List (List ℕ)) × (twice_among now ys ≡ [])
-behind_names before [] ys h = (before, h)
-behind_names before (x ∷ xs) ys h =
+-- after some names
+after_names : (before : List (List ℕ)) (xs ys : List NameTree) → twice_among before (xs ++ ys) ≡ [] → (now : List (List ℕ)) × (twice_among now ys ≡ [])
+after_names before [] ys h = (before, h)
+after_names before (x ∷ xs) ys h =
     let both = none_left (twice before x) (twice_among (with_name before x.text) (xs ++ ys)) h in
-    behind_names (with_name before x.text) xs ys both.1
+    after_names (with_name before x.text) xs ys both.1
 
 place_behind : {X : Type 0} (xs ys : List X) (i : ℕ) (x : X) → slice_get ys i ≡ Some x → (k : ℕ) × (slice_get (xs ++ ys) k ≡ Some x)
 place_behind [] ys i x h = (i, h)
@@ -108,7 +108,7 @@ first_once m before ms h rest (suc i) (suc j) x y ex ey same = rest i j x y ex e
 
 kind_once : (attributes : List NameTree) (words : List Modifier) (kind : MemberKindTree) (before : List (List ℕ)) (ms : List MemberTree) → ((now : List (List ℕ)) → twice_among now (member_names ms) ≡ [] → AreOnce (methods_in ms)) →
     twice_among before (kind_names kind ++ member_names ms) ≡ [] → AreOnce (methods_of_kind attributes words kind ++ methods_in ms)
-kind_once attributes words (FieldsOf d) before ms rest h = let r = behind_names before (kind_names (FieldsOf d)) (member_names ms) h in rest r.0 r.1
+kind_once attributes words (FieldsOf d) before ms rest h = let r = after_names before (kind_names (FieldsOf d)) (member_names ms) h in rest r.0 r.1
 kind_once attributes words (InvariantOf e) before ms rest h = rest before h
 kind_once attributes words (ConstructorOf n ps base cs b) before ms rest h = rest before h
 kind_once attributes words (MethodOf r n ps cs b) before ms rest h =

@@ -18,7 +18,7 @@ use Rattle.ss_faults.specs.declared.Fault.{Fault}
 use Rattle.ss_tables.specs.Members.{MethodTree, ConstructorTree, has_attribute, fields_in}
 use Rattle.ss_tables.specs.Members as tables
 use Rattle.ss_typed.specs.Tree.{ParamTree, MembersTree, BodyTree, TypedTree}
-use Rattle.ss_owners_rules.specs.Attributes.{Names, is_mark, on_field, on_param, on_body, bad_behind, bad_attributes}
+use Rattle.ss_owners_rules.specs.Attributes.{Names, is_mark, on_field, on_param, on_body, bad_after, bad_attributes}
 use Rattle.ss_owners_rules.specs.Words.{NoWord, misplaced_if}
 use Rattle.ss_owners_rules.specs.Program.{bad_attribute, at, of_words, of_attributes, invariants_faults, field_faults, fields_faults, class_faults, classes_faults, param_faults, params_faults, misplaced_body, body_faults, bodies_faults, ownership_faults}
 use Rattle.ss_resolver_names_rules.specs.Programs.{program_faults}
@@ -54,7 +54,7 @@ may_stand : (may : Names) (a : NameTree) (more : List NameTree) → bad_attribut
 may_stand may a more h =
     ⊎_elim
     (λ yes. yes)
-    (λ no. absurd (let bad : a.place ∷ bad_behind may (a ∷ []) more ≡ [] = rw no at h in let z : ⊥ = cc in z))
+    (λ no. absurd (let bad : a.place ∷ bad_after may (a ∷ []) more ≡ [] = rw no at h in let z : ⊥ = cc in z))
     (cases_Bool (may a.text))
 
 -- a field without attributes isn't marked

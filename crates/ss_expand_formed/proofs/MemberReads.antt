@@ -31,7 +31,7 @@ use Rattle.ss_resolver_rules.specs.Names.{known}
 use Rattle.ss_resolver_rules.specs.declared.known.Known.{Known}
 use Rattle.ss_resolver_rules.specs.declared.known.Known.TheVariants.{Variable, BoundName}
 use Rattle.ss_resolver_rules.specs.Numbers.{class_in}
-use Rattle.ss_resolver_rules.specs.Expressions.{this, read_field, known_or_field, field_behind, state_word, member, expr}
+use Rattle.ss_resolver_rules.specs.Expressions.{this, read_field, known_or_field, field_after, state_word, member, expr}
 use Rattle.ss_resolver_rules.specs.Programs.{resolved}
 use Rattle.ss_expand_rules.specs.Calls.{has_call}
 use Rattle.ss_store_rules.specs.Changes.{is_array}
@@ -129,7 +129,7 @@ module _ (p : ProgramTree) (faultless : program_faults p ≡ []) (x : Context) (
   -- ---- members
 
   read_of_place : (a : At) (q : Place) (o : ExprTree) (c : ℕ) (m : Bool) → FitAt a o → type_of o ≡ Some (ty.Ref (record { 0 = c }) m) → is_class C c ≡ true → (n : List ℕ) (k : Option ℕ) → declared_place c ≡ k →
-      is_method_read n k ≡ false → declares p.classes n k ≡ true → ReadOf a o (field_behind (env_at p a) q o n k) (field_type p.classes n k)
+      is_method_read n k ≡ false → declares p.classes n k ≡ true → ReadOf a o (field_after (env_at p a) q o n k) (field_type p.classes n k)
   read_of_place a q o c m fit is class n None e h g = absurd (false≢true g)
   read_of_place a q o c m fit is class n (Some k) e h g =
       let number = place_is c k e in
@@ -144,11 +144,11 @@ module _ (p : ProgramTree) (faultless : program_faults p ≡ []) (x : Context) (
   read_of_class a q o c m fit is class n read methods members = by_word (is_state_read n) read
     where
       by_array : (b : Bool) → is_array_number c ≡ b → (if b then is_length n else declares p.classes n (declared_place c)) ≡ true →
-          ReadOf a o (if b then LengthOf q o else field_behind (env_at p a) q o n (declared_place c)) (if b then (if is_length n then Some ty.Int else None) else field_type p.classes n (declared_place c))
+          ReadOf a o (if b then LengthOf q o else field_after (env_at p a) q o n (declared_place c)) (if b then (if is_length n then Some ty.Int else None) else field_type p.classes n (declared_place c))
       by_array true e g = rw g (record { fit = (fit, ap (has_class (is_array C)) is ∙ array_known C c e class); type = λ u z. z; some = refl; calls = refl })
       by_array false e g = read_of_place a q o c m fit is class n (declared_place c) refl methods g
 
-      by_word : (b : Bool) → b ≡ false → ReadOf a o (if b then StateOf q (state_word n) o else if is_array_number c then LengthOf q o else field_behind (env_at p a) q o n (declared_place c)) (member_type p.classes n (Some c))
+      by_word : (b : Bool) → b ≡ false → ReadOf a o (if b then StateOf q (state_word n) o else if is_array_number c then LengthOf q o else field_after (env_at p a) q o n (declared_place c)) (member_type p.classes n (Some c))
       by_word true e = absurd (false≢true (sym e))
       by_word false e = by_array (is_array_number c) refl members
 

@@ -18,7 +18,7 @@ use Rattle.ss_store_rules.specs.Construction.{is_return, has_fields_from, return
 abbrev pub Fields : Type 0
 Fields = ℕ → Bool
 
--- behind a statement
+-- after a statement
 abbrev pub fields_after : CoreTree → BodyTree → core.StmtTree → Fields → Fields
 fields_after c b (WriteStmt p o f m t e) k = λ g. k g || is_this o && g == f
 fields_after c b (CallStmt p x (BaseConstructor n) es) k = λ f. k f || not b.flags.delayed || is_field_above c b f
@@ -82,22 +82,22 @@ module _ (c : CoreTree) (b : BodyTree) where
   body_same e (Some k) = refl
 
   mutual
-    behind_same : (s : core.StmtTree) (k : Known) → fields_of (behind (known_flow c b) s k) ≡ behind (fields_flow c b) s k.fields
-    behind_same (IfStmt p e x y) k =
+    after_same : (s : core.StmtTree) (k : Known) → fields_of (behind (known_flow c b) s k) ≡ behind (fields_flow c b) s k.fields
+    after_same (IfStmt p e x y) k =
         met_same (at_end (known_flow c b) x (Some (known_tested e true k))) (at_end (known_flow c b) y (Some (known_tested e false k)))
         ∙ ap (λ z. met (fields_flow c b) z (fields_of (at_end (known_flow c b) y (Some (known_tested e false k))))) (end_same x (Some (known_tested e true k)))
         ∙ ap (met (fields_flow c b) (at_end (fields_flow c b) x (Some k.fields))) (end_same y (Some (known_tested e false k)))
-    behind_same (LoopStmt p is x e y xs) k = left_same e (at_end (known_flow c b) x (Some (known_head (LoopStmt p is x e y xs) k))) ∙ ap (left (fields_flow c b) e) (end_same x (Some (known_head (LoopStmt p is x e y xs) k)))
-    behind_same (ReturnStmt p e) k = refl
-    behind_same (CallStmt p x callee es) k = ap Some (kept_same p x callee es k)
-    behind_same (NewStmt p x t es) k = ap Some (made_same p x t es k)
-    behind_same (NewArrayStmt p x t e) k = ap Some (array_same p x t e k)
-    behind_same s k = refl
+    after_same (LoopStmt p is x e y xs) k = left_same e (at_end (known_flow c b) x (Some (known_head (LoopStmt p is x e y xs) k))) ∙ ap (left (fields_flow c b) e) (end_same x (Some (known_head (LoopStmt p is x e y xs) k)))
+    after_same (ReturnStmt p e) k = refl
+    after_same (CallStmt p x callee es) k = ap Some (kept_same p x callee es k)
+    after_same (NewStmt p x t es) k = ap Some (made_same p x t es k)
+    after_same (NewArrayStmt p x t e) k = ap Some (array_same p x t e k)
+    after_same s k = refl
 
     pub end_same : (code : CodeTree) (k : Option Known) → fields_of (at_end (known_flow c b) code k) ≡ at_end (fields_flow c b) code (fields_of k)
     end_same NoCode k = refl
     end_same (Then s code) None = refl
-    end_same (Then s code) (Some k) = end_same code (behind (known_flow c b) s k) ∙ ap (at_end (fields_flow c b) code) (behind_same s k)
+    end_same (Then s code) (Some k) = end_same code (behind (known_flow c b) s k) ∙ ap (at_end (fields_flow c b) code) (after_same s k)
 
   reached_same : (s : core.StmtTree) (x : Option Known) → where_reached (returns_complete c b s) x ≡ where_reached (at_return c b s) (fields_of x)
   reached_same s None = refl
@@ -132,7 +132,7 @@ module _ (c : CoreTree) (b : BodyTree) where
     pub along_same : (code : CodeTree) (k : Option Known) → holds_along (known_flow c b) (complete_check c b) code k ≡ holds_along (fields_flow c b) (fields_check c b) code (fields_of k)
     along_same NoCode k = refl
     along_same (Then s code) None = refl
-    along_same (Then s code) (Some k) = ap (λ x. x && holds_along (known_flow c b) (complete_check c b) code (behind (known_flow c b) s k)) (holds_same s k) ∙ ap (λ x. holds_at (fields_flow c b) (fields_check c b) s k.fields && x) (along_same code (behind (known_flow c b) s k) ∙ ap (holds_along (fields_flow c b) (fields_check c b) code) (behind_same s k))
+    along_same (Then s code) (Some k) = ap (λ x. x && holds_along (known_flow c b) (complete_check c b) code (behind (known_flow c b) s k)) (holds_same s k) ∙ ap (λ x. holds_at (fields_flow c b) (fields_check c b) s k.fields && x) (along_same code (behind (known_flow c b) s k) ∙ ap (holds_along (fields_flow c b) (fields_check c b) code) (after_same s k))
 
 -- ---- code that only adds to them
 
@@ -157,24 +157,24 @@ module _ (c : CoreTree) (b : BodyTree) where
   call_grows p x callee es k f h = h
 
   mutual
-    mild_behind : (s : core.StmtTree) (k : Fields) → each_inside is_mild s ≡ true → (l : Fields) × (behind (fields_flow c b) s k ≡ Some l) × Grows k l
-    mild_behind (IfStmt p e x y) k h =
+    mild_after : (s : core.StmtTree) (k : Fields) → each_inside is_mild s ≡ true → (l : Fields) × (behind (fields_flow c b) s k ≡ Some l) × Grows k l
+    mild_after (IfStmt p e x y) k h =
         let both = and_parts (each is_mild x) (each is_mild y) h in
         let one = mild_end x k both.0 in
         let other = mild_end y k both.1 in
         ((λ f. one.fields f && other.fields f), ap (λ z. met (fields_flow c b) z (at_end (fields_flow c b) y (Some k))) one.is ∙ ap (met (fields_flow c b) (Some one.fields)) other.is, λ f g. and_from _ _ (one.grows f g) (other.grows f g))
-    mild_behind (LoopStmt p is x e y xs) k h = absurd (false≢true h)
-    mild_behind (ReturnStmt p e) k h = absurd (false≢true h)
-    mild_behind (WriteStmt p o f m t e) k h = ((λ g. k g || is_this o && g == f), refl, λ g i. or_left (k g) _ i)
-    mild_behind (CallStmt p x callee es) k h = (fields_after c b (CallStmt p x callee es) k, refl, call_grows p x callee es k)
-    mild_behind (ReadyStmt p) k h = ((λ f. true), refl, λ f g. refl)
-    mild_behind s k h = (k, refl, λ f g. g)
+    mild_after (LoopStmt p is x e y xs) k h = absurd (false≢true h)
+    mild_after (ReturnStmt p e) k h = absurd (false≢true h)
+    mild_after (WriteStmt p o f m t e) k h = ((λ g. k g || is_this o && g == f), refl, λ g i. or_left (k g) _ i)
+    mild_after (CallStmt p x callee es) k h = (fields_after c b (CallStmt p x callee es) k, refl, call_grows p x callee es k)
+    mild_after (ReadyStmt p) k h = ((λ f. true), refl, λ f g. refl)
+    mild_after s k h = (k, refl, λ f g. g)
 
     pub mild_end : (code : CodeTree) (k : Fields) → each is_mild code ≡ true → Adds c b code k
     mild_end NoCode k h = record { fields = k; is = refl; grows = λ f g. g }
     mild_end (Then s code) k h =
         let both = and_parts (each_inside is_mild s) (each is_mild code) h in
-        let one = mild_behind s k both.0 in
+        let one = mild_after s k both.0 in
         let rest = mild_end code one.0 both.1 in
         record { fields = rest.fields; is = ap (at_end (fields_flow c b) code) one.1 ∙ rest.is; grows = λ f g. rest.grows f (one.2 f g) }
 
@@ -208,19 +208,19 @@ module _ (c : CoreTree) (b : BodyTree) where
   -- ---- an end that can't be reached
 
   mutual
-    stops_behind : (s : core.StmtTree) (k : Fields) → passes s ≡ false → behind (fields_flow c b) s k ≡ None
-    stops_behind (IfStmt p e x y) k h =
+    stops_after : (s : core.StmtTree) (k : Fields) → passes s ≡ false → behind (fields_flow c b) s k ≡ None
+    stops_after (IfStmt p e x y) k h =
         let both = or_false (reaches_end x) (reaches_end y) h in
         ap (λ z. met (fields_flow c b) z (at_end (fields_flow c b) y (Some k))) (stops x (Some k) both.0) ∙ stops y (Some k) both.1
-    stops_behind (LoopStmt p is x e y xs) k h = ap (λ v. if v then None else option_map (λ z. z) (at_end (fields_flow c b) x (Some k))) (not_false (is_literal_true e) h)
-    stops_behind (ReturnStmt p e) k h = refl
-    stops_behind s k h = absurd (false≢true (sym h))
+    stops_after (LoopStmt p is x e y xs) k h = ap (λ v. if v then None else option_map (λ z. z) (at_end (fields_flow c b) x (Some k))) (not_false (is_literal_true e) h)
+    stops_after (ReturnStmt p e) k h = refl
+    stops_after s k h = absurd (false≢true (sym h))
 
     pub stops : (code : CodeTree) (k : Option Fields) → reaches_end code ≡ false → at_end (fields_flow c b) code k ≡ None
     stops NoCode k h = absurd (false≢true (sym h))
     stops (Then s code) None h = refl
     stops (Then s code) (Some k) h =
         ⊎_elim
-        (λ here. ap (at_end (fields_flow c b) code) (stops_behind s k here) ∙ at_none (fields_flow c b) code)
+        (λ here. ap (at_end (fields_flow c b) code) (stops_after s k here) ∙ at_none (fields_flow c b) code)
         (λ later. stops code (behind (fields_flow c b) s k) later.1)
         (and_is_false (passes s) (reaches_end code) h)

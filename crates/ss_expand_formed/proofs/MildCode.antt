@@ -15,7 +15,7 @@ use Rattle.ss_expand_rules.specs.Program.{field_at, above_of}
 use Rattle.ss_expand_rules.specs.Calls.{has_call}
 use Rattle.ss_expand_rules.specs.Lifting.{ElaborationContext, value, right_side, arguments_of}
 use Rattle.ss_expand_rules.specs.Code.{Coded}
-use Rattle.ss_expand_rules.specs.Simple.{write_of, assign_settled, settle, assign_behind, declare, simple}
+use Rattle.ss_expand_rules.specs.Simple.{write_of, assign_settled, settle, assign_after, declare, simple}
 use Rattle.ss_store_rules.specs.Locals.{each}
 use Rattle.ss_store_rules.specs.Paths.{at_end}
 use Rattle.ss_expand_formed.proofs.Along.{at_end-append}
@@ -109,4 +109,4 @@ module _ (z : ElaborationContext) where
     pub assignment_adds : (q r : Place) (t f : ℕ) (u : Ty) (e : ExprTree) (made : List Ty) (k : Fields) → is_some (field_at z.program f) ≡ true → AddsField c b f (simple z (AssignOf (FieldOf q (ThisOf r t) f u) operator.Set e) made).code k
     assignment_adds q r t f u e made k h =
         let l = FieldOf q (ThisOf r t) f u in
-        where_chosen (λ (x : Coded). AddsField c b f x.code k) (has_call l || has_call e) (assign_behind z e (settle z l made)) (assign_settled z l e made) (λ yes. settled_adds q r t f u e made k h) (λ no. settled_adds q r t f u e made k h)
+        where_chosen (λ (x : Coded). AddsField c b f x.code k) (has_call l || has_call e) (assign_after z e (settle z l made)) (assign_settled z l e made) (λ yes. settled_adds q r t f u e made k h) (λ no. settled_adds q r t f u e made k h)

@@ -17,7 +17,7 @@ use Rattle.ss_expand_rules.specs.Bodies.{results, param_of}
 use Rattle.ss_store_rules.specs.Locals.{argument_count}
 use Rattle.ss_store_rules.specs.Tables.{normal_number, normal_default, no_place, normal_condition, normal_named, normal_entry, normal_exit, all_normal_named}
 use Rattle.ss_expand_formed.proofs.Choosing.{three_parts}
-use Rattle.ss_expand_formed.proofs.Readings.{reads, term_reads, terms_read, contract_reads, behind_params}
+use Rattle.ss_expand_formed.proofs.Readings.{reads, term_reads, terms_read, contract_reads, after_params}
 
 -- A body of the core program has the contract of the written body b in the class t, whose method has these declarations.
 pub record HasContract (y : core.BodyTree) (b : BodyTree) (t : ℕ) (bs : List BodyTree) : Type 0 where
@@ -27,15 +27,15 @@ pub record HasContract (y : core.BodyTree) (b : BodyTree) (t : ℕ) (bs : List B
   pub pure : y.flags.pure ≡ b.flags.pure
   pub numbers : Numbers
   pub place : Place
-  pub size : argument_count y ≡ behind_params b
+  pub size : argument_count y ≡ after_params b
   pub meant : numbers.meant ≡ []
-  pub outcome : numbers.outcome ≡ behind_params b + length y.locals
-  pub bound : numbers.first_bound ≡ behind_params b + length y.locals + results b.result
+  pub outcome : numbers.outcome ≡ after_params b + length y.locals
+  pub bound : numbers.first_bound ≡ after_params b + length y.locals + results b.result
   pub entry : y.entry ≡ entry_conditions numbers place b t bs
   pub exit : y.exit ≡ exit_conditions numbers place b t bs
   pub named : y.named ≡ named_terms numbers place b t bs
 
--- ---- numbers in normal form: behind n arguments stand the results and then the bound names
+-- ---- numbers in normal form: after n arguments stand the results and then the bound names
 
 abbrev pub settled : ℕ → ℕ → Numbers
 settled n results = record { meant = []; first_temporary = 0; outcome = n; first_bound = n + results }
@@ -177,7 +177,7 @@ all_exits_read low n (b ∷ bs) h =
 
 -- ---- contracts
 
-module _ (y : core.BodyTree) (b : BodyTree) (t : ℕ) (bs : List BodyTree) (is : HasContract y b t bs) (low n r : ℕ) (same : behind_params b ≡ n) (also : results b.result ≡ r) (read : list_all (contract_reads low n) bs ≡ true) where
+module _ (y : core.BodyTree) (b : BodyTree) (t : ℕ) (bs : List BodyTree) (is : HasContract y b t bs) (low n r : ℕ) (same : after_params b ≡ n) (also : results b.result ≡ r) (read : list_all (contract_reads low n) bs ≡ true) where
   size : argument_count y ≡ n
   size = is.size ∙ same
 

@@ -1,10 +1,10 @@
--- Behind a statement whose end can't be reached nothing is known.
+-- After a statement whose end can't be reached nothing is known.
 use Rattle.std.proofs.Common.{◌≡◌, Bool, true, false, Option, Some, None, refl, sym, ◌∙◌, ap}
 use Rattle.std.specs.Prelude.{not, ◌&&◌}
 use Rattle.std.proofs.lemmas.Bool.{false≢true}
 use Rattle.ss_core.specs.declared.names.Place.{Place}
 use Rattle.ss_typed.specs.Tree.{ExprTree, BoolOf, BlockTree, BlockOf, StmtTree, InBlock, DeclareOf, SimpleOf, IfOf, IfElseOf, WhileOf, ForOf, ReturnOf, AssertOf, AssumeOf, ExposeOf, EmptyOf, StmtTrees, NoMore, Before}
-use Rattle.ss_paths.specs.Paths.{Flow, test_of, left, behind, behind_block, at_end, begun}
+use Rattle.ss_paths.specs.Paths.{Flow, test_of, left, behind, after_block, at_end, begun}
 use Rattle.ss_typed.specs.Shapes.{is_true}
 use Rattle.ss_expand_rules.specs.Ends.{can_end, block_can_end, all_can_end, is_always}
 use Rattle.ss_expand_formed.proofs.Facts.{or_false}
@@ -14,9 +14,9 @@ not_false true h = refl
 not_false false h = absurd (false≢true (sym h))
 
 module _ {S : Type 0} (f : Flow S) where
-  pub none_behind : (ss : StmtTrees) → at_end f ss None ≡ None
-  none_behind NoMore = refl
-  none_behind (Before s ss) = refl
+  pub none_after : (ss : StmtTrees) → at_end f ss None ≡ None
+  none_after NoMore = refl
+  none_after (Before s ss) = refl
 
   left_none : (e : ExprTree) (k : S) → is_true e ≡ true → left f e k ≡ None
   left_none e k h = rw h refl
@@ -27,7 +27,7 @@ module _ {S : Type 0} (f : Flow S) where
 
   by_ends : (a b : Bool) (ss : StmtTrees) (k : Option S) → (a ≡ false → k ≡ None) → (b ≡ false → at_end f ss k ≡ None) → (a && b) ≡ false → at_end f ss k ≡ None
   by_ends true b ss k g h i = h i
-  by_ends false b ss k g h i = ap (at_end f ss) (g refl) ∙ none_behind ss
+  by_ends false b ss k g h i = ap (at_end f ss) (g refl) ∙ none_after ss
 
   mutual
     pub no_end : (s : StmtTree) (k : S) → can_end s ≡ false → behind f s k ≡ None
@@ -48,7 +48,7 @@ module _ {S : Type 0} (f : Flow S) where
     no_end (ExposeOf p e t b) k h = no_block_end b k h
     no_end (EmptyOf p) k h = absurd (false≢true (sym h))
 
-    no_block_end : (b : BlockTree) (k : S) → block_can_end b ≡ false → behind_block f b k ≡ None
+    no_block_end : (b : BlockTree) (k : S) → block_can_end b ≡ false → after_block f b k ≡ None
     no_block_end (BlockOf p ss end) k h = no_end_along ss (Some k) h
 
     no_end_along : (ss : StmtTrees) (k : Option S) → all_can_end ss ≡ false → at_end f ss k ≡ None

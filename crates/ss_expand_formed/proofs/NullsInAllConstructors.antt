@@ -48,14 +48,14 @@ use Rattle.ss_expand_formed.proofs.Initial.{initial_of, initial_fit}
 use Rattle.ss_expand_formed.proofs.NullsReading.{stmts_again}
 use Rattle.ss_expand_formed.proofs.NullsInConstructors.{parts_of, IsConstructor, late_keeps, early_keeps}
 use Rattle.ss_expand_formed.proofs.NullsOwned.{owned, builds_owned, own_among, own_owned, owns}
-use Rattle.ss_expand_formed.proofs.ThisInConstructors.{initial_others, NamesOthers, UsesFields, uses_fields, WritesFirst, writes_first, front_fine, given_fine, behind_fields, others_behind, fields_behind, names_others, initializers_initial}
+use Rattle.ss_expand_formed.proofs.ThisInConstructors.{initial_others, NamesOthers, UsesFields, uses_fields, WritesFirst, writes_first, front_fine, given_fine, behind_fields, others_after, fields_behind, names_others, initializers_initial}
 
 -- ---- lists of statements
 
-own_behind : (p : TypedTree) (t : ℕ) (xs ys : StmtTrees) → OnlyOwn p t (before_all xs ys) → OnlyOwn p t ys
-own_behind p t NoMore ys h = h
-own_behind p t (Before (SimpleOf x) xs) ys h = own_behind p t xs ys h.1
-own_behind p t (Before x xs) ys h = absurd h
+own_after : (p : TypedTree) (t : ℕ) (xs ys : StmtTrees) → OnlyOwn p t (before_all xs ys) → OnlyOwn p t ys
+own_after p t NoMore ys h = h
+own_after p t (Before (SimpleOf x) xs) ys h = own_after p t xs ys h.1
+own_after p t (Before x xs) ys h = absurd h
 
 -- ---- a constructor of the source
 
@@ -133,7 +133,7 @@ module _ (p : ProgramTree) (faultless : program_faults p ≡ []) (types : type_f
         let mine = fit_parts b (initializers q b.class) rest (subst (FitAll q cs (context_of b) b.flags.ctor (first_param b + length b.params)) parted fit) in
         let first = initializers_initial p construction k tree is.there b.class is.class own (own_owned p faultless k tree is.there b is.class is.static bs) in
         let one : all_fitting z (initializers q b.class) ≡ true = initial_fit (core_of p) q b bs own is.static cs (context_of b) (initializers q b.class) first parts.0 in
-        let two : all_fitting z rest ≡ true = stmts_again (core_of p) q b bs own is.static cs (context_of b) b.flags.ctor (first_param b + length b.params) (owns p faultless k tree is.there b is.class is.static bs) rest (fields_behind q b late uses) (others_behind q b others) mine parts.1 in
+        let two : all_fitting z rest ≡ true = stmts_again (core_of p) q b bs own is.static cs (context_of b) b.flags.ctor (first_param b + length b.params) (owns p faultless k tree is.there b is.class is.static bs) rest (fields_behind q b late uses) (others_after q b others) mine parts.1 in
         late_keeps (core_of p) p k tree b is bs late own (builds_owned p faultless k tree is.there b is.class is.static bs) (subst (λ xs. all_fitting z xs ≡ true) (sym parted) (fitting_both z (initializers q b.class) rest one two))
 
     -- ---- one that isn't delayed
@@ -144,7 +144,7 @@ module _ (p : ProgramTree) (faultless : program_faults p ≡ []) (types : type_f
         let mine = own_among p faultless k tree is.there b is.class is.static bs in
         let first = initializers_initial p construction k tree is.there b.class is.class own mine in
         let whole : OnlyOwn q b.class (before_all (initializers q b.class) (opening q b)) = ⊎_elim (λ (r : BuildsNothing b). absurd (false≢true (sym r.ctor ∙ is.ctor))) (λ (r : Builds q b). subst (OnlyOwn q b.class) (r.begins.as_early early) r.begins.own) (all_built p types n b at) in
-        let front = initial_of q b.class own mine (opening q b) (own_behind q b.class (initializers q b.class) (opening q b) whole) (front_fine q b others writes) in
+        let front = initial_of q b.class own mine (opening q b) (own_after q b.class (initializers q b.class) (opening q b) whole) (front_fine q b others writes) in
         early_keeps (core_of p) p k tree b is bs early (ready_below_object p) fitting first front (given_fine q b others writes)
 
     -- ---- each of them
@@ -178,5 +178,5 @@ module _ (p : ProgramTree) (faultless : program_faults p ≡ []) (types : type_f
   pub statements_others : (k : ℕ) (c : ClassTree) → slice_get p.classes k ≡ Some c → delayed.classes_faults q 0 q.members ≡ [] → (b : BodyTree) → b.class ≡ 4 + 2 * k → b.flags.ctor ≡ true → b.result ≡ None → NamesOthers b → Along OtherSimple Other (statements q b)
   statements_others k c at construction b class ctor none others =
       let first = initial_others (λ f. true) (initializers q b.class) (initializers_initial p construction k c at b.class class (λ f. true) (λ f h. refl)) in
-      let all = along_before OtherSimple Other (initializers q b.class) (behind_fields q b) first (others_behind q b others) in
+      let all = along_before OtherSimple Other (initializers q b.class) (behind_fields q b) first (others_after q b others) in
       subst (Along OtherSimple Other) (sym (parts_of q b ctor none)) all

@@ -24,7 +24,7 @@ use Rattle.ss_delayed_rules.specs.Constructors.{arguments_of}
 use Rattle.ss_resolver_rules.specs.Programs.{members, resolved}
 use Rattle.ss_expand_rules.specs.Simple.{has_delayed_constructor}
 use Rattle.ss_expand_rules.specs.Contracts.{first_param}
-use Rattle.ss_expand_rules.specs.Constructors.{before_all, initializers, behind_initial, base_alone, with_base}
+use Rattle.ss_expand_rules.specs.Constructors.{before_all, initializers, after_initial, base_alone, with_base}
 use Rattle.ss_expand_rules.specs.Bodies as bodies
 use Rattle.ss_expand_rules.specs.Bodies.{temporary_count, written_body}
 use Rattle.ss_store_rules.specs.NonNull.{known_at_entry, keeps_nulls_out}
@@ -35,14 +35,14 @@ use Rattle.ss_expand_formed.proofs.Fit.{Context}
 use Rattle.ss_expand_formed.specs.Fitting.{Frame, base_fits, all_fitting, Agrees, Builds, Covers}
 use Rattle.ss_expand_formed.specs.Bodies.{body_frame, method_frame, nothing_known}
 use Rattle.ss_expand_formed.proofs.NullsPlain.{not_none}
-use Rattle.ss_expand_formed.proofs.Numbers.{behind_copies}
+use Rattle.ss_expand_formed.proofs.Numbers.{after_copies}
 use Rattle.ss_expand_formed.proofs.NullsDelayed.{none_assigned}
 use Rattle.ss_expand_formed.proofs.NullsMethods.{faults_before_return, faults_of_block, agrees, body_from}
-use Rattle.ss_expand_formed.proofs.Seams.{fitting_parts, Less, HoldFrom, from_less, all_hold, behind_simple, behind_all}
-use Rattle.ss_expand_formed.proofs.BehindBase.{behind_base}
+use Rattle.ss_expand_formed.proofs.Seams.{fitting_parts, Less, HoldFrom, from_less, all_hold, after_simple, behind_all}
+use Rattle.ss_expand_formed.proofs.AfterBase.{after_base}
 use Rattle.ss_expand_formed.proofs.Refit.{refit_base}
 use Rattle.ss_expand_formed.proofs.Initial.{OnlyInitial, initial_simple, initial_fit}
-use Rattle.ss_expand_formed.proofs.Initializers.{own_less, behind_initializers}
+use Rattle.ss_expand_formed.proofs.Initializers.{own_less, after_initializers}
 use Rattle.ss_expand_formed.proofs.Splits.{split_at_base, split_at_run}
 
 -- its statements: the beginnings of fields, `base(..)` and the block, and a return
@@ -74,7 +74,7 @@ module _ (c : core.CoreTree) (p : ProgramTree) (k : ℕ) (tree : ClassTree) (b :
   abbrev last : StmtTrees
   last = Before (ReturnOf (closing_brace b.block) None) NoMore
 
-  -- what the phase knows behind the beginnings of fields, and at the beginning of the block
+  -- what the phase knows after the beginnings of fields, and at the beginning of the block
   abbrev initialized : source.Known
   initialized = record { facts = none; fields = assigned_by_initializers q b.class }
 
@@ -91,8 +91,8 @@ module _ (c : core.CoreTree) (p : ProgramTree) (k : ℕ) (tree : ClassTree) (b :
       let K = null_check (null_context_of q b) in
       faults_before_return F K (λ m. refl) (closing_brace b.block) ss (Some first) (faults_of_block F K (λ m. refl) b.block (Some first) is.block)
 
-  behind_this : b.flags.ctor ≡ true → 0 < behind_copies b 0
-  behind_this ctor = let one : first_param b ≡ 1 = ap (λ (v : Bool). if v then 0 else 1) is.static in omega arith
+  after_this : b.flags.ctor ≡ true → 0 < after_copies b 0
+  after_this ctor = let one : first_param b ≡ 1 = ap (λ (v : Bool). if v then 0 else 1) is.static in omega arith
 
   -- ---- in any frame
 
@@ -102,7 +102,7 @@ module _ (c : core.CoreTree) (p : ProgramTree) (k : ℕ) (tree : ClassTree) (b :
 
     module _ (builds : Builds z) where
       agree : Agrees z
-      agree = agrees c q b bs fields free builds behind_this
+      agree = agrees c q b bs fields free builds after_this
 
       whole : free ≡ false → all_fitting z (initializers q b.class) ≡ true → HoldFrom z initialized (before_all (with_base q b b.base ss) last) → keeps_nulls_out c (written_body q b bs) ≡ true
       whole bound fit rest =
@@ -116,9 +116,9 @@ module _ (c : core.CoreTree) (p : ProgramTree) (k : ℕ) (tree : ClassTree) (b :
           } in
           let more = before_all (with_base q b b.base ss) last in
           let inner : HoldFrom z nothing_known (before_all (initializers q t) more) =
-          behind_initializers p k tree is.there z agree builds context is.begins (subst (λ u. all_fitting z (initializers q u) ≡ true) is.class fit) more (subst (λ u. HoldFrom z (record { facts = none; fields = assigned_by_initializers q u }) more) is.class rest) in
+          after_initializers p k tree is.there z agree builds context is.begins (subst (λ u. all_fitting z (initializers q u) ≡ true) is.class fit) more (subst (λ u. HoldFrom z (record { facts = none; fields = assigned_by_initializers q u }) more) is.class rest) in
           let all : HoldFrom z nothing_known (bodies.statements q b) = subst (HoldFrom z nothing_known) (sym statements_are) (subst (λ u. HoldFrom z nothing_known (before_all (initializers q u) more)) (sym is.class) inner) in
-          body_from c q b bs fields free builds behind_this nothing_known (λ x h. not_none x h) covers (λ l known made. all [] l known made)
+          body_from c q b bs fields free builds after_this nothing_known (λ x h. not_none x h) covers (λ l known made. all [] l known made)
 
   -- ---- a delayed constructor
 
@@ -126,28 +126,28 @@ module _ (c : core.CoreTree) (p : ProgramTree) (k : ℕ) (tree : ClassTree) (b :
     abbrev v : Frame
     v = z fields false
 
-    -- behind `base(..)`, and behind what is read of the block
+    -- after `base(..)`, and after what is read of the block
     based_less : (place : Place) (es : Arguments) → Less v first (source.known_done v.context (BaseCallOf place es) initialized)
     based_less place es = record { facts = λ x i. i; fields = λ f o h. own_less v.context.numbers f first.fields (source.known_done v.context (BaseCallOf place es) initialized).fields (λ i h. h) (λ h. refl) h }
 
     late_called : (place : Place) (es : Arguments) → handed_to_base v.context (Some initialized) es ≡ [] → all_fitting v (Before (SimpleOf (BaseCallOf place es)) (before_all ss last)) ≡ true → HoldFrom v initialized (Before (SimpleOf (BaseCallOf place es)) (before_all ss last))
     late_called place es clean g =
         let both = and_parts (base_fits v es) (all_fitting v (before_all ss last)) g in
-        behind_simple v (agree fields false builds) builds initialized first (BaseCallOf place es) (before_all ss last) both.0 clean (based_less place es) (all_hold v (agree fields false builds) builds first (before_all ss last) both.1 block_pure)
+        after_simple v (agree fields false builds) builds initialized first (BaseCallOf place es) (before_all ss last) both.0 clean (based_less place es) (all_hold v (agree fields false builds) builds first (before_all ss last) both.1 block_pure)
 
     late_rest : (base : Option BaseTree) → base_faults q b base ≡ [] → all_fitting v (before_all (with_base q b base ss) last) ≡ true → HoldFrom v initialized (before_all (with_base q b base ss) last)
     late_rest (Some o) clean g = late_called o.place o.arguments clean g
     late_rest None clean g =
         ⊎_elim
         (λ yes.
-        let is_block : with_base q b None ss ≡ ss = ap (λ (w : Bool). if w then ss else if b.flags.delayed then Before (base_alone b) ss else behind_initial q b.class (base_alone b) ss) yes in
+        let is_block : with_base q b None ss ≡ ss = ap (λ (w : Bool). if w then ss else if b.flags.delayed then Before (base_alone b) ss else after_initial q b.class (base_alone b) ss) yes in
         let found : has_base ss ≡ true = yes in
         let less : Less v first initialized = record { facts = λ x i. i; fields = λ f o h. own_less v.context.numbers f first.fields initialized.fields (λ i own. own) (λ above. absurd (false≢true (sym (ap not found) ∙ above))) h } in
         let mine = subst (λ xs. all_fitting v (before_all xs last) ≡ true) is_block g in
         subst (λ xs. HoldFrom v initialized (before_all xs last)) (sym is_block) (from_less v first initialized (before_all ss last) less (all_hold v (agree fields false builds) builds first (before_all ss last) mine block_pure)))
         (λ no.
         let is_called : with_base q b None ss ≡ Before (base_alone b) ss =
-        ap (λ (w : Bool). if w then ss else if b.flags.delayed then Before (base_alone b) ss else behind_initial q b.class (base_alone b) ss) no ∙ ap (λ (w : Bool). if w then Before (base_alone b) ss else behind_initial q b.class (base_alone b) ss) late in
+        ap (λ (w : Bool). if w then ss else if b.flags.delayed then Before (base_alone b) ss else after_initial q b.class (base_alone b) ss) no ∙ ap (λ (w : Bool). if w then Before (base_alone b) ss else after_initial q b.class (base_alone b) ss) late in
         let mine = subst (λ xs. all_fitting v (before_all xs last) ≡ true) is_called g in
         subst (λ xs. HoldFrom v initialized (before_all xs last)) (sym is_called) (late_called b.place typed.Arguments.NoMore refl mine))
         (cases_Bool (has_base ss))
@@ -171,7 +171,7 @@ module _ (c : core.CoreTree) (p : ProgramTree) (k : ℕ) (tree : ClassTree) (b :
     abbrev own : ℕ → Bool
     own f = is_among (field_numbers q b.class) f
 
-    -- before `base(..)`, and behind it
+    -- before `base(..)`, and after it
     abbrev before : Frame
     before = z own false
 
@@ -181,8 +181,8 @@ module _ (c : core.CoreTree) (p : ProgramTree) (k : ℕ) (tree : ClassTree) (b :
     builds_before : Builds before
     builds_before = record { delayed = refl; above = λ f h g. absurd (false≢true (sym g ∙ h)); inherited = λ f h g. absurd (false≢true (sym g ∙ h)) }
 
-    builds_behind : Builds behind
-    builds_behind = record { delayed = refl; above = λ f h g. absurd (false≢true h); inherited = λ f h g. absurd (false≢true h) }
+    builds_after : Builds behind
+    builds_after = record { delayed = refl; above = λ f h g. absurd (false≢true h); inherited = λ f h g. absurd (false≢true h) }
 
     abbrev nowhere : Context
     nowhere = record { is_static = false; class = 0; locals = []; result = None }
@@ -197,12 +197,12 @@ module _ (c : core.CoreTree) (p : ProgramTree) (k : ℕ) (tree : ClassTree) (b :
     first_less : Less before first initialized
     first_less = record { facts = λ x i. i; fields = λ f o h. among_less f first.fields initialized.fields o (λ i h. h) h }
 
-    -- what stands behind `base(..)` is as in a method
+    -- what stands after `base(..)` is as in a method
     called : (k m : source.Known) (place : Place) (es : Arguments) (more : StmtTrees) → AreFine NotAtAll es → handed_to_base before.context (Some k) es ≡ [] → ((x : ℕ) → m.facts x ≡ true → k.facts x ≡ true) →
         phase.faults_along (source.known_flow before.context) (null_check before.context) more (Some m) ≡ [] → all_fitting behind (Before (SimpleOf (BaseCallOf place es)) more) ≡ true → HoldFrom before k (Before (SimpleOf (BaseCallOf place es)) more)
     called k m place es more fine clean less pure g =
         let both = and_parts (base_fits behind es) (all_fitting behind more) g in
-        behind_base c q b bs own early object (agree own false builds_before) builds_before k m place es more (base_before es fine both.0) clean less (all_hold behind (agree (λ f. false) true builds_behind) builds_behind m more both.1 pure)
+        after_base c q b bs own early object (agree own false builds_before) builds_before k m place es more (base_before es fine both.0) clean less (all_hold behind (agree (λ f. false) true builds_after) builds_after m more both.1 pure)
 
     -- `base(..)` stands in the block
     in_block_called : has_base ss ≡ true → OnlyInitial own (before_base ss) → AreFine NotAtAll (arguments_of (base_in ss)) → all_fitting behind (before_all ss last) ≡ true → HoldFrom before initialized (before_all ss last)
@@ -223,33 +223,33 @@ module _ (c : core.CoreTree) (p : ProgramTree) (k : ℕ) (tree : ClassTree) (b :
         called m next r.place r.given rest given both.0 (λ y i. i) both.1 parts.1) in
         from_less before first initialized (before_all ss last) first_less (subst (HoldFrom before first) (sym parted) all)
 
-    -- nothing writes it: it is implied behind the first assignments
-    implied_called : OnlyInitial own (first_run q b.class ss) → all_fitting behind (before_all (behind_initial q b.class (base_alone b) ss) last) ≡ true → HoldFrom before initialized (before_all (behind_initial q b.class (base_alone b) ss) last)
+    -- nothing writes it: it is implied after the first assignments
+    implied_called : OnlyInitial own (first_run q b.class ss) → all_fitting behind (before_all (after_initial q b.class (base_alone b) ss) last) ≡ true → HoldFrom before initialized (before_all (after_initial q b.class (base_alone b) ss) last)
     implied_called only g =
         let r = split_at_run q b.class (base_alone b) ss in
         let front = first_run q b.class ss in
         let seen = before_all r.rest last in
         let more = Before (base_alone b) seen in
         let parted : before_all ss last ≡ before_all front seen = ap (λ xs. before_all xs last) r.is ∙ before_all_assoc front r.rest last in
-        let whole_parted : before_all (behind_initial q b.class (base_alone b) ss) last ≡ before_all front more = ap (λ xs. before_all xs last) r.base ∙ before_all_assoc front (Before (base_alone b) r.rest) last in
+        let whole_parted : before_all (after_initial q b.class (base_alone b) ss) last ≡ before_all front more = ap (λ xs. before_all xs last) r.base ∙ before_all_assoc front (Before (base_alone b) r.rest) last in
         let parts = fitting_parts behind front more (subst (λ xs. all_fitting behind xs ≡ true) whole_parted g) in
         let pure = subst (λ xs. phase.faults_along (source.known_flow (null_context_of q b)) (null_check (null_context_of q b)) xs (Some first) ≡ []) parted block_pure in
         let all : HoldFrom before first (before_all front more) = behind_all before (agree own false builds_before) builds_before front seen more first (initial_simple own front only) (initial_before front only parts.0) pure
         (λ m clean. called m m b.place typed.Arguments.NoMore seen (record { unused = refl; locals = refl }) refl (λ y i. i) clean parts.1) in
-        from_less before first initialized (before_all (behind_initial q b.class (base_alone b) ss) last) first_less (subst (HoldFrom before first) (sym whole_parted) all)
+        from_less before first initialized (before_all (after_initial q b.class (base_alone b) ss) last) first_less (subst (HoldFrom before first) (sym whole_parted) all)
 
     early_rest : (base : Option BaseTree) → base_faults q b base ≡ [] → OnlyInitial own (opening_of q b.class base ss) → AreFine NotAtAll (arguments_of (base_or base ss)) → all_fitting behind (before_all (with_base q b base ss) last) ≡ true → HoldFrom before initialized (before_all (with_base q b base ss) last)
     early_rest (Some o) clean only fine g = called initialized first o.place o.arguments (before_all ss last) fine clean (λ y i. i) block_pure g
     early_rest None clean only fine g =
         ⊎_elim
         (λ yes.
-        let is_block : with_base q b None ss ≡ ss = ap (λ (w : Bool). if w then ss else if b.flags.delayed then Before (base_alone b) ss else behind_initial q b.class (base_alone b) ss) yes in
+        let is_block : with_base q b None ss ≡ ss = ap (λ (w : Bool). if w then ss else if b.flags.delayed then Before (base_alone b) ss else after_initial q b.class (base_alone b) ss) yes in
         let found : has_base ss ≡ true = yes in
         let front : OnlyInitial own (before_base ss) = subst (λ (w : Bool). OnlyInitial own (if w then before_base ss else first_run q b.class ss)) found only in
         subst (λ xs. HoldFrom before initialized (before_all xs last)) (sym is_block) (in_block_called found front fine (subst (λ xs. all_fitting behind (before_all xs last) ≡ true) is_block g)))
         (λ no.
-        let is_run : with_base q b None ss ≡ behind_initial q b.class (base_alone b) ss =
-        ap (λ (w : Bool). if w then ss else if b.flags.delayed then Before (base_alone b) ss else behind_initial q b.class (base_alone b) ss) no ∙ ap (λ (w : Bool). if w then Before (base_alone b) ss else behind_initial q b.class (base_alone b) ss) early in
+        let is_run : with_base q b None ss ≡ after_initial q b.class (base_alone b) ss =
+        ap (λ (w : Bool). if w then ss else if b.flags.delayed then Before (base_alone b) ss else after_initial q b.class (base_alone b) ss) no ∙ ap (λ (w : Bool). if w then Before (base_alone b) ss else after_initial q b.class (base_alone b) ss) early in
         let front : OnlyInitial own (first_run q b.class ss) = subst (λ (w : Bool). OnlyInitial own (if w then before_base ss else first_run q b.class ss)) no only in
         subst (λ xs. HoldFrom before initialized (before_all xs last)) (sym is_run) (implied_called front (subst (λ xs. all_fitting behind (before_all xs last) ≡ true) is_run g)))
         (cases_Bool (has_base ss))

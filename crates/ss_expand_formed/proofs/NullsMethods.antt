@@ -33,7 +33,7 @@ use Rattle.ss_expand_formed.specs.Bodies.{body_frame, method_frame}
 use Rattle.ss_expand_formed.proofs.NullsPlain.{not_none}
 use Rattle.ss_expand_formed.proofs.Putting.{flow, check, runs_join, putting, put_runs, put_field}
 use Rattle.ss_expand_formed.proofs.Assignments.{Done, done_nothing}
-use Rattle.ss_expand_formed.proofs.Numbers.{in_middle, types_append, param_types, params_types, copies_types, temporaries_types, behind_copies, own_below, own_within, past_all, own_apart}
+use Rattle.ss_expand_formed.proofs.Numbers.{in_middle, types_append, param_types, params_types, copies_types, temporaries_types, after_copies, own_below, own_within, past_all, own_apart}
 use Rattle.ss_expand_formed.proofs.NullsStatements.{stmts_known}
 
 -- ---- the statements of a method
@@ -121,16 +121,16 @@ module _ (p : TypedTree) (b : BodyTree) (bs : List BodyTree) where
       let n : first_copy b ≡ length (A ++ (P ++ L)) = omega (arith, this_size, param_size, local_size) in
       ap (λ ts. slice_get ts (first_copy b + i)) (all_types ∙ e) ∙ in_middle (A ++ (P ++ L)) C (T ++ R) (first_copy b) i t n h
 
-  temporary_at : (i : ℕ) (t : Ty) → slice_get T i ≡ Some t → slice_get (local_types y) (behind_copies b 0 + i) ≡ Some t
+  temporary_at : (i : ℕ) (t : Ty) → slice_get T i ≡ Some t → slice_get (local_types y) (after_copies b 0 + i) ≡ Some t
   temporary_at i t h =
       let e : ((A ++ P) ++ ((L ++ C) ++ T)) ++ R ≡ (A ++ (P ++ (L ++ C))) ++ (T ++ R) = simp append_assoc in
       let one = length-append A (P ++ (L ++ C)) in
       let two = length-append P (L ++ C) in
       let three = length-append L C in
-      let n : behind_copies b 0 ≡ length (A ++ (P ++ (L ++ C))) = omega (arith, this_size, param_size, local_size, copy_size) in
-      ap (λ ts. slice_get ts (behind_copies b 0 + i)) (all_types ∙ e) ∙ in_middle (A ++ (P ++ (L ++ C))) T R (behind_copies b 0) i t n h
+      let n : after_copies b 0 ≡ length (A ++ (P ++ (L ++ C))) = omega (arith, this_size, param_size, local_size, copy_size) in
+      ap (λ ts. slice_get ts (after_copies b 0 + i)) (all_types ∙ e) ∙ in_middle (A ++ (P ++ (L ++ C))) T R (after_copies b 0) i t n h
 
-module _ (c : core.CoreTree) (p : TypedTree) (b : BodyTree) (bs : List BodyTree) (fields : ℕ → Bool) (free : Bool) (builds : Builds (body_frame c p b bs fields free)) (behind_this : b.flags.ctor ≡ true → 0 < behind_copies b 0) where
+module _ (c : core.CoreTree) (p : TypedTree) (b : BodyTree) (bs : List BodyTree) (fields : ℕ → Bool) (free : Bool) (builds : Builds (body_frame c p b bs fields free)) (after_this : b.flags.ctor ≡ true → 0 < after_copies b 0) where
   abbrev z : Frame
   z = body_frame c p b bs fields free
 
@@ -146,7 +146,7 @@ module _ (c : core.CoreTree) (p : TypedTree) (b : BodyTree) (bs : List BodyTree)
     own = own_below b n;
     apart = own_apart b n;
     past = past_all b n;
-    behind_this = behind_this;
+    after_this = after_this;
   }
 
   -- ---- copies of parameters
@@ -179,12 +179,12 @@ module _ (c : core.CoreTree) (p : TypedTree) (b : BodyTree) (bs : List BodyTree)
 
   -- ---- the whole body
 
-  -- It keeps nulls out where the code of its statements does, behind which are the copies of what is known at the entry.
+  -- It keeps nulls out where the code of its statements does, after which are the copies of what is known at the entry.
   pub body_from : (k : source.Known) → ((x : ℕ) → k.facts x ≡ true → ⊥) → Covers z k (known_at_entry (written_body p b bs)) → ((l : Known) → Covers z k l → HasMade z (code_with p b n).made → holds_along (flow z) (check z) (code_of (code_with p b n).code) (Some l) ≡ true) → keeps_nulls_out c (written_body p b bs) ≡ true
   body_from k empty covers rest =
       let entry = known_at_entry (written_body p b bs) in
       let front = copying_done k empty (first_copy b) (first_param b) b.params (param_at p b bs) (copy_at p b bs) entry covers in
-      let first = behind_copies b n in
+      let first = after_copies b n in
       let same : (code_with p b n).made ≡ temporary_types p b = stmts_same p b (meant b) first (first + n) (first + 0) (first + n + results b.result) (first + 0 + results b.result) [] (statements p b) [] in
       let made : HasMade z (code_with p b n).made = λ i t h. temporary_at p b bs i t (ap (λ ts. slice_get ts i) (sym same) ∙ h) in
       holds-append (flow z) (check z) (copying b) (code_with p b n).code (Some entry) front.runs.checked (ap (holds_along (flow z) (check z) (code_of (code_with p b n).code)) front.runs.at ∙ rest front.now front.covers made)

@@ -1,4 +1,4 @@
--- Declarations, calls alone, printing and `base(..)` keep nulls out, and behind them the elaboration knows what the phase of null knows.
+-- Declarations, calls alone, printing and `base(..)` keep nulls out, and after them the elaboration knows what the phase of null knows.
 use Rattle.std.proofs.Common.{◌≡◌, ℕ, List, [], ◌∷◌, ◌++◌, Bool, true, false, Option, Some, None, refl, sym, ◌∙◌, ap}
 use Rattle.std.specs.Prelude.{not, ◌-◌, ◌==◌, ◌&&◌, ◌||◌, if◌then◌else◌, is_some, pos}
 use Rattle.std.proofs.lemmas.Bool.{and_parts, and_from, or_left, or_right, eqb-true, false≢true}
@@ -29,7 +29,7 @@ use Rattle.ss_typed.specs.Shapes.{place_of}
 use Rattle.ss_expand_rules.specs.Program.{above_of, Constructor, number_of}
 use Rattle.ss_typed.specs.Lookups.{constructor_of, param_types_in}
 use Rattle.ss_expand_rules.specs.Lifting.{Opened, Source, Pure, Created, CreatedArray, Called, Listed, right_side, value, arguments_of}
-use Rattle.ss_expand_rules.specs.Simple.{update, assignment, step_operator, default_of, declared_as, declare, drop_result, print, has_delayed_constructor, ready_behind, base_with, base_of, simple}
+use Rattle.ss_expand_rules.specs.Simple.{update, assignment, step_operator, default_of, declared_as, declare, drop_result, print, has_delayed_constructor, ready_after, base_with, base_of, simple}
 use Rattle.ss_store_rules.specs.Typed.{callee_of}
 use Rattle.ss_store_rules.specs.NonNull.{Known, is_non_null_type, may_enter}
 use Rattle.ss_expand_formed.proofs.Facts.{none_left}
@@ -133,7 +133,7 @@ module _ (z : Frame) (agrees : Agrees z) (builds : Builds z) (os : List Opened) 
   abbrev based : source.Known → source.Known
   based k = record k { fields = record k.fields { above = true } }
 
-  ready_known : (k : source.Known) (l : Known) (p : Place) (t : ℕ) → Covers z k l → Done z agrees l k (ready_behind (s z agrees os) p t)
+  ready_known : (k : source.Known) (l : Known) (p : Place) (t : ℕ) → Covers z k l → Done z agrees l k (ready_after (s z agrees os) p t)
   ready_known k l p t c = by z.written.flags.delayed (has_delayed_constructor z.typed t)
     where
       by : (d r : Bool) → Done z agrees l k (if d then [] else if r then ReadyStmt p ∷ [] else [])
@@ -141,7 +141,7 @@ module _ (z : Frame) (agrees : Agrees z) (builds : Builds z) (os : List Opened) 
       by false false = done_nothing z agrees l k c
       by false true = record { now = _; runs = runs_one z l _ (ReadyStmt p) refl refl; covers = record { facts = c.facts; mine = c.mine; fields = λ f o i. refl; free = λ i f. refl } }
 
-  -- a field that counts as assigned behind `base(..)`
+  -- a field that counts as assigned after `base(..)`
   based_has : {P : Type 0} (k : source.Known) (f : ℕ) → (has_field z.context.numbers k.fields f ≡ true → P) → (is_among z.context.numbers f ≡ false → P) → has_field z.context.numbers (based k).fields f ≡ true → P
   based_has {P = P} k f old new h = by (is_among z.context.numbers f) refl h
     where
@@ -180,8 +180,8 @@ module _ (z : Frame) (agrees : Agrees z) (builds : Builds z) (os : List Opened) 
       d : Listed
       d = arguments_of (s z agrees os) (param_types_in (constructor_of z.typed t)) es made
 
-      by : (b : Bool) → (t == 0) ≡ b → (b || enters_with (callee_of z.program z.body (BaseConstructor n)) ts && all_fit z es) ≡ true → HasMade z (if b then record { code = ready_behind (s z agrees os) p t; made = made } else base_with (s z agrees os) p t d).made →
-          Done z agrees l (based k) (if b then record { code = ready_behind (s z agrees os) p t; made = made } else base_with (s z agrees os) p t d).code
+      by : (b : Bool) → (t == 0) ≡ b → (b || enters_with (callee_of z.program z.body (BaseConstructor n)) ts && all_fit z es) ≡ true → HasMade z (if b then record { code = ready_after (s z agrees os) p t; made = made } else base_with (s z agrees os) p t d).made →
+          Done z agrees l (based k) (if b then record { code = ready_after (s z agrees os) p t; made = made } else base_with (s z agrees os) p t d).code
       by true e f m = ready_known (based k) l p t (top_known k l c e)
       by false e f m =
           let both = and_parts (enters_with (callee_of z.program z.body (BaseConstructor n)) ts) (all_fit z es) f in
@@ -189,7 +189,7 @@ module _ (z : Frame) (agrees : Agrees z) (builds : Builds z) (os : List Opened) 
           let h = arguments_known z agrees os (wants_of o) ts (param_types_in (constructor_of z.typed t)) es both.1 k l made c i (wants_of_entered o ts both.0) m in
           let one = called_known k h.now p n d.values h.covers (may_enter_with z agrees os o h.now d.values h.stand) in
           let two = ready_known (based k) one.now p t one.covers in
-          record { now = two.now; runs = runs_join z l h.now two.now d.code _ h.runs (runs_join z h.now one.now two.now (CallStmt p None (BaseConstructor n) d.values ∷ []) (ready_behind (s z agrees os) p t) one.runs two.runs); covers = two.covers }
+          record { now = two.now; runs = runs_join z l h.now two.now d.code _ h.runs (runs_join z h.now one.now two.now (CallStmt p None (BaseConstructor n) d.values ∷ []) (ready_after (s z agrees os) p t) one.runs two.runs); covers = two.covers }
 
   -- ---- simple statements
 

@@ -1,4 +1,4 @@
--- Elaborated statements keep nulls out, and behind them the elaboration knows what the phase of null knows.
+-- Elaborated statements keep nulls out, and after them the elaboration knows what the phase of null knows.
 use Rattle.std.proofs.Common.{◌≡◌, ℕ, List, [], ◌∷◌, ◌++◌, length, map, Bool, true, false, Option, Some, None, refl, sym, ◌∙◌, ap, subst, arith}
 use Rattle.std.specs.Prelude.{not, ◌&&◌, ◌||◌, if◌then◌else◌, is_some, option_and_then, reverse}
 use Rattle.std.proofs.lemmas.Bool.{and_parts, and_from, or_right, eq-eqb, false≢true}
@@ -43,7 +43,7 @@ use Rattle.ss_expand_formed.proofs.Operations.{wanted_never}
 use Rattle.ss_expand_formed.proofs.Expressions.{right_known, value_known}
 use Rattle.ss_expand_formed.proofs.Assignments.{Done, done_nothing}
 use Rattle.ss_expand_formed.proofs.NullsSimple.{declare_known, simple_known}
-use Rattle.ss_expand_formed.proofs.NullsEnds.{none_behind, no_end}
+use Rattle.ss_expand_formed.proofs.NullsEnds.{none_after, no_end}
 use Rattle.ss_expand_formed.proofs.Paths.{along, CoversWhere, Goes, goes_done, runs_goes, goes_then, tested_covers, branch_goes, loop_goes}
 use Rattle.ss_expand_formed.proofs.Quiet.{step_quiet, stmt_quiet, head_covers}
 use Rattle.ss_expand_formed.proofs.Spared.{Spares, loop_spares, then_spares, advance_spares, stmt_spares}
@@ -206,7 +206,7 @@ module _ (z : Frame) (agrees : Agrees z) (builds : Builds z) where
       let h = value_known z agrees os e f (at_head a step k) head made covers i (made_before z agrees v.made (turn v.made).made (grows v.made) m) in
       loop_goes z agrees (at_head a step k) l e v p (all_plain z.numbers is) (turn v.made).code (map exposed os) h f (literal_true os e made) (turns v.made (known_tested v.value true h.now) (tested_covers z agrees (at_head a step k) head e v true h f) m)
 
-  -- ---- code behind code
+  -- ---- code after code
 
   then_goes : (l : Known) (c : Coded) (b : Bool) (f : List Ty → Coded) (a after : Option source.Known) → Goes z agrees l a c.code → (a ≡ None → after ≡ None) → (b ≡ false → a ≡ None) →
       ((q : source.Known) (m : Known) → a ≡ Some q → Covers z q m → HasMade z (f c.made).made → Goes z agrees m after (f c.made).code) → HasMade z (then_code c (if b then f else nothing)).made → Goes z agrees l after (then_code c (if b then f else nothing)).code
@@ -323,10 +323,10 @@ module _ (z : Frame) (agrees : Agrees z) (builds : Builds z) where
     stmt_known (ExposeOf p e t b) f os k made i l c m =
         let both = and_parts (fits z e) (block_fits z b) f in
         let clean = none_left (inside z.context (Some k) e) (faults_in (along z agrees) asked b (Some k)) i in
-        exposes os p e (exposed_class e t) (block_can_end b) b k made (phase.behind_block (along z agrees) b k) both.0 clean.0 (λ o ms. block_known b both.1 (os ++ o ∷ []) k ms clean.1) l c m
+        exposes os p e (exposed_class e t) (block_can_end b) b k made (phase.after_block (along z agrees) b k) both.0 clean.0 (λ o ms. block_known b both.1 (os ++ o ∷ []) k ms clean.1) l c m
     stmt_known (EmptyOf p) f os k made i l c m = nothing_goes l k c
 
-    block_known : (b : BlockTree) → block_fits z b ≡ true → (os : List Opened) (k : source.Known) (made : List Ty) → faults_in (along z agrees) asked b (Some k) ≡ [] → Statement (block (elaboration_context z os) b) made k (phase.behind_block (along z agrees) b k)
+    block_known : (b : BlockTree) → block_fits z b ≡ true → (os : List Opened) (k : source.Known) (made : List Ty) → faults_in (along z agrees) asked b (Some k) ≡ [] → Statement (block (elaboration_context z os) b) made k (phase.after_block (along z agrees) b k)
     block_known (BlockOf p ss end) f os k made i l c m = stmts_known ss f os k made i l c m
 
     pub stmts_known : (ss : StmtTrees) → all_fitting z ss ≡ true → (os : List Opened) (k : source.Known) (made : List Ty) → faults_along (along z agrees) asked ss (Some k) ≡ [] → Statement (stmts (elaboration_context z os) ss) made k (phase.at_end (along z agrees) ss (Some k))
@@ -340,7 +340,7 @@ module _ (z : Frame) (agrees : Agrees z) (builds : Builds z) where
         let clean = none_left (faults_at F asked x (Some k)) (faults_along F asked xs a) i in
         let grown = on_either (λ (f : List Ty → Coded). Begins d.made (f d.made).made) (can_end x) (stmts s xs) nothing (stmts_begin s xs d.made) (begins_itself d.made) in
         let first = stmt_known x both.0 os k made clean.0 l c (made_before z agrees d.made _ grown m) in
-        then_goes l d (can_end x) (stmts s xs) a (phase.at_end F xs a) first (λ e. ap (phase.at_end F xs) e ∙ none_behind F xs) (no_end F x k)
+        then_goes l d (can_end x) (stmts s xs) a (phase.at_end F xs a) first (λ e. ap (phase.at_end F xs) e ∙ none_after F xs) (no_end F x k)
         (λ q n e g mm. subst (λ b. Goes z agrees n (phase.at_end F xs b) (stmts s xs d.made).code) (sym e) (stmts_known xs both.1 os q d.made (ap (faults_along F asked xs) (sym e) ∙ clean.1) n g mm)) m
 
 pub stmts_hold : (z : Frame) → Agrees z → Builds z → (ss : StmtTrees) → all_fitting z ss ≡ true → (os : List Opened) (k : source.Known) (made : List Ty) → faults_along (source.known_flow z.context) (null_check z.context) ss (Some k) ≡ [] → (l : Known) → Covers z k l → HasMade z (stmts (elaboration_context z os) ss made).made →

@@ -100,13 +100,13 @@ module _ (block : BlockTree) where
       (λ no. rw no (ap suc (meant_length copy (x + 1) qs)))
       (cases_Bool (block_assigns x block))
 
-behind_this : (static : Bool) (ms : List ℕ) (i : ℕ) → slice_get ((if static then [] else 0 ∷ []) ++ ms) ((if static then 0 else 1) + i) ≡ slice_get ms i
-behind_this true ms i = let e : 0 + i ≡ i = omega arith in ap (slice_get ms) e
-behind_this false ms i = let e : 1 + i ≡ suc i = omega arith in ap (slice_get (0 ∷ ms)) e
+after_this : (static : Bool) (ms : List ℕ) (i : ℕ) → slice_get ((if static then [] else 0 ∷ []) ++ ms) ((if static then 0 else 1) + i) ≡ slice_get ms i
+after_this true ms i = let e : 0 + i ≡ i = omega arith in ap (slice_get ms) e
+after_this false ms i = let e : 1 + i ≡ suc i = omega arith in ap (slice_get (0 ∷ ms)) e
 
 module _ (b : BodyTree) (n : ℕ) where
-  abbrev pub behind_copies : ℕ
-  behind_copies = first_copy b + length (assigned_params b)
+  abbrev pub after_copies : ℕ
+  after_copies = first_copy b + length (assigned_params b)
 
   abbrev ms : List ℕ
   ms = meant_from b.block (first_copy b) (first_param b) b.params
@@ -119,14 +119,14 @@ module _ (b : BodyTree) (n : ℕ) where
   bounds x h = let both = and_parts (nat_le (first_param b) x) (nat_lt x (first_copy b)) h in (leb-true (first_param b) x both.0, ltb-true x (first_copy b) both.1)
 
   looked : (i : ℕ) → slice_get (meant b) (first_param b + i) ≡ slice_get ms i
-  looked i = behind_this b.flags.is_static ms i
+  looked i = after_this b.flags.is_static ms i
 
   -- a local of the body has its number, or that of a copy
   record Number (x : ℕ) : Type 0 where
     place : ℕ
     is : first_param b + place ≡ x
     kind : ((place < length b.params) × (slice_get ms place ≡ Some (number (numbers b n) x))) ⊎ ((length b.params ≤ place) × (number (numbers b n) x ≡ x))
-    bound : (number (numbers b n) x ≡ x) ⊎ ((first_copy b ≤ number (numbers b n) x) × (number (numbers b n) x < behind_copies))
+    bound : (number (numbers b n) x ≡ x) ⊎ ((first_copy b ≤ number (numbers b n) x) × (number (numbers b n) x < after_copies))
 
   number_of : (x : ℕ) → is_own x ≡ true → Number x
   number_of x h =
@@ -147,13 +147,13 @@ module _ (b : BodyTree) (n : ℕ) where
       record { place = i; is = e; kind = inr (past, m); bound = inl m })
       (cases_lt i (length b.params))
 
-  pub own_below : (x : ℕ) → is_own x ≡ true → number (numbers b n) x < behind_copies
+  pub own_below : (x : ℕ) → is_own x ≡ true → number (numbers b n) x < after_copies
   own_below x h = let l = (bounds x h).1 in ⊎_elim (λ e. omega arith) (λ k. k.1) (number_of x h).bound
 
-  pub own_within : (x : ℕ) → is_own x ≡ true → x < behind_copies
+  pub own_within : (x : ℕ) → is_own x ≡ true → x < after_copies
   own_within x h = let l = (bounds x h).1 in omega arith
 
-  pub past_all : (x : ℕ) → behind_copies ≤ x → number (numbers b n) x ≡ x
+  pub past_all : (x : ℕ) → after_copies ≤ x → number (numbers b n) x ≡ x
   past_all x h =
       let i = x - first_param b in
       let e : first_param b + i ≡ x = omega arith in

@@ -8,7 +8,7 @@ use Rattle.ss_core.specs.Tree as core
 use Rattle.ss_core.specs.Tree.{IfStmt, LoopStmt, CallStmt, BaseConstructor, ReadyStmt, CodeTree, NoCode, Then}
 use Rattle.ss_core.specs.View.{code_of}
 use Rattle.ss_store_rules.specs.Locals.{each, each_inside}
-use Rattle.ss_store_rules.specs.Construction.{is_base_or_ready, has_no_base_or_ready, opening, behind_opening, begins_with, has_base_without_this, is_without_this}
+use Rattle.ss_store_rules.specs.Construction.{is_base_or_ready, has_no_base_or_ready, opening, after_opening, begins_with, has_base_without_this, is_without_this}
 use Rattle.ss_expand_formed.proofs.Facts.{not_true}
 use Rattle.ss_expand_formed.proofs.Shape.{Code, each-append}
 
@@ -34,11 +34,11 @@ opening_before (x ∷ xs) s ys h g =
     let both = and_parts (each_inside (λ z. not (is_base_or_ready z)) x) (has_none xs) h in
     rw (other_first x both.0) (ap (Then x) (opening_before xs s ys both.1 g))
 
-pub behind_before : (xs : Code) (s : core.StmtTree) (ys : Code) → has_none xs ≡ true → is_base_or_ready s ≡ true → behind_opening (code_of (xs ++ s ∷ ys)) ≡ Then s (code_of ys)
-behind_before [] s ys h g = rw g refl
-behind_before (x ∷ xs) s ys h g =
+pub after_before : (xs : Code) (s : core.StmtTree) (ys : Code) → has_none xs ≡ true → is_base_or_ready s ≡ true → after_opening (code_of (xs ++ s ∷ ys)) ≡ Then s (code_of ys)
+after_before [] s ys h g = rw g refl
+after_before (x ∷ xs) s ys h g =
     let both = and_parts (each_inside (λ z. not (is_base_or_ready z)) x) (has_none xs) h in
-    rw (other_first x both.0) (behind_before xs s ys both.1 g)
+    rw (other_first x both.0) (after_before xs s ys both.1 g)
 
 opening_whole : (xs : Code) → has_none xs ≡ true → opening (code_of xs) ≡ code_of xs
 opening_whole [] h = refl
@@ -46,11 +46,11 @@ opening_whole (x ∷ xs) h =
     let both = and_parts (each_inside (λ z. not (is_base_or_ready z)) x) (has_none xs) h in
     rw (other_first x both.0) (ap (Then x) (opening_whole xs both.1))
 
-behind_whole : (xs : Code) → has_none xs ≡ true → behind_opening (code_of xs) ≡ NoCode
-behind_whole [] h = refl
-behind_whole (x ∷ xs) h =
+after_whole : (xs : Code) → has_none xs ≡ true → after_opening (code_of xs) ≡ NoCode
+after_whole [] h = refl
+after_whole (x ∷ xs) h =
     let both = and_parts (each_inside (λ z. not (is_base_or_ready z)) x) (has_none xs) h in
-    rw (other_first x both.0) (behind_whole xs both.1)
+    rw (other_first x both.0) (after_whole xs both.1)
 
 -- ---- the order of the two
 
@@ -62,10 +62,10 @@ abbrev pub ready_where : Bool → Place → Code
 ready_where wanted p = if wanted then ReadyStmt p ∷ [] else []
 
 abbrev pub IsInOrder : CodeTree → Bool → Bool → Type 0
-IsInOrder code base ready = (has_no_base_or_ready (opening code) && begins_with base ready (behind_opening code)) ≡ true
+IsInOrder code base ready = (has_no_base_or_ready (opening code) && begins_with base ready (after_opening code)) ≡ true
 
 pub none_in_order : (xs : Code) → has_none xs ≡ true → IsInOrder (code_of xs) false false
-none_in_order xs h = rw (opening_whole xs h, behind_whole xs h) (and_from _ _ h refl)
+none_in_order xs h = rw (opening_whole xs h, after_whole xs h) (and_from _ _ h refl)
 
 module _ (front rest : Code) (p : Place) (n : ℕ) (es : List core.ExprTree) (h : has_none front ≡ true) (g : has_none rest ≡ true) where
   abbrev pub whole : Bool → Bool → Code
@@ -73,9 +73,9 @@ module _ (front rest : Code) (p : Place) (n : ℕ) (es : List core.ExprTree) (h 
 
   pub in_order : (base ready : Bool) → IsInOrder (code_of (whole base ready)) base ready
   in_order false false = none_in_order (front ++ rest) (each-append (λ s. not (is_base_or_ready s)) front rest h g)
-  in_order true false = let s = CallStmt p None (BaseConstructor n) es in rw (opening_before front s rest h refl, behind_before front s rest h refl) (and_from _ _ h g)
-  in_order false true = rw (opening_before front (ReadyStmt p) rest h refl, behind_before front (ReadyStmt p) rest h refl) (and_from _ _ h g)
-  in_order true true = let s = CallStmt p None (BaseConstructor n) es in rw (opening_before front s (ReadyStmt p ∷ rest) h refl, behind_before front s (ReadyStmt p ∷ rest) h refl) (and_from _ _ h g)
+  in_order true false = let s = CallStmt p None (BaseConstructor n) es in rw (opening_before front s rest h refl, after_before front s rest h refl) (and_from _ _ h g)
+  in_order false true = rw (opening_before front (ReadyStmt p) rest h refl, after_before front (ReadyStmt p) rest h refl) (and_from _ _ h g)
+  in_order true true = let s = CallStmt p None (BaseConstructor n) es in rw (opening_before front s (ReadyStmt p ∷ rest) h refl, after_before front s (ReadyStmt p ∷ rest) h refl) (and_from _ _ h g)
 
   -- where one is wanted the front is what stands before them
   pub front_is_opening : (base ready : Bool) → (base ≡ true) ⊎ (ready ≡ true) → opening (code_of (whole base ready)) ≡ code_of front
@@ -83,7 +83,7 @@ module _ (front rest : Code) (p : Place) (n : ℕ) (es : List core.ExprTree) (h 
   front_is_opening false true w = opening_before front (ReadyStmt p) rest h refl
   front_is_opening false false w = absurd (⊎_elim false≢true false≢true w)
 
-  pub arguments_are_without : (base ready : Bool) → list_all is_without_this es ≡ true → has_base_without_this (behind_opening (code_of (whole base ready))) ≡ true
-  arguments_are_without true ready w = rw (behind_before front (CallStmt p None (BaseConstructor n) es) (ready_where ready p ++ rest) h refl) w
-  arguments_are_without false true w = rw (behind_before front (ReadyStmt p) rest h refl) refl
-  arguments_are_without false false w = rw (behind_whole (front ++ rest) (each-append (λ s. not (is_base_or_ready s)) front rest h g)) refl
+  pub arguments_are_without : (base ready : Bool) → list_all is_without_this es ≡ true → has_base_without_this (after_opening (code_of (whole base ready))) ≡ true
+  arguments_are_without true ready w = rw (after_before front (CallStmt p None (BaseConstructor n) es) (ready_where ready p ++ rest) h refl) w
+  arguments_are_without false true w = rw (after_before front (ReadyStmt p) rest h refl) refl
+  arguments_are_without false false w = rw (after_whole (front ++ rest) (each-append (λ s. not (is_base_or_ready s)) front rest h g)) refl

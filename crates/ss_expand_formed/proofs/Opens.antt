@@ -1,4 +1,4 @@
--- The exposes around elaborated code are open wherever a loop in it is reached, and behind it.
+-- The exposes around elaborated code are open wherever a loop in it is reached, and after it.
 use Rattle.std.proofs.Common.{◌≡◌, ℕ, suc, ◌+◌, ◌≤◌, List, [], ◌∷◌, ◌++◌, map, Bool, true, false, Option, Some, None, refl, sym, ◌∙◌, ap, arith, ⊎_elim}
 use Rattle.std.specs.Prelude.{not, reverse, ◌==◌, ◌&&◌, ◌||◌, nat_le, nat_lt, if◌then◌else◌, option_map}
 use Rattle.std.specs.List.{list_all}
@@ -25,7 +25,7 @@ all_open os k = list_all (λ (o : Opened). k o.local o.class) os
 abbrev IsOpen : List Opened → Option Open → Type 0
 IsOpen os k = where_reached (all_open os) k ≡ true
 
--- what a loop names is open, and so are the exposes behind the code
+-- what a loop names is open, and so are the exposes after the code
 abbrev pub Keeps : List Opened → Code → Type 0
 Keeps os xs = (k : Open) → all_open os k ≡ true → (holds_along open_flow open_check (code_of xs) (Some k) ≡ true) × IsOpen os (at_end open_flow (code_of xs) (Some k))
 
@@ -41,13 +41,13 @@ join os xs ys a b k h =
 
 -- ---- steps
 
-step_behind : (x : core.StmtTree) (k : Open) → is_step x ≡ true → behind open_flow x k ≡ Some (λ y u. not (is_target x y) && k y u)
-step_behind (IfStmt p e a b) k h = absurd (false≢true h)
-step_behind (LoopStmt p invariants prelude e body exposes) k h = absurd (false≢true h)
-step_behind (UnpackStmt p x t) k h = absurd (false≢true h)
-step_behind (PackStmt p x t) k h = absurd (false≢true h)
-step_behind (ReturnStmt p e) k h = absurd (false≢true h)
-step_behind x k h = refl
+step_after : (x : core.StmtTree) (k : Open) → is_step x ≡ true → behind open_flow x k ≡ Some (λ y u. not (is_target x y) && k y u)
+step_after (IfStmt p e a b) k h = absurd (false≢true h)
+step_after (LoopStmt p invariants prelude e body exposes) k h = absurd (false≢true h)
+step_after (UnpackStmt p x t) k h = absurd (false≢true h)
+step_after (PackStmt p x t) k h = absurd (false≢true h)
+step_after (ReturnStmt p e) k h = absurd (false≢true h)
+step_after x k h = refl
 
 step_holds : (x : core.StmtTree) (k : Open) → is_step x ≡ true → holds_at open_flow open_check x k ≡ true
 step_holds (IfStmt p e a b) k h = absurd (false≢true h)
@@ -77,7 +77,7 @@ step_keeps : (f g : ℕ → Bool) → ((y : ℕ) → g y ≡ true → f y ≡ fa
 step_keeps f g other os around x is h k open_there =
     let free = all_more (λ (o : Opened). g o.local) (λ (o : Opened). not (is_target x o.local)) (λ o i. not_assigned f x o.local h (other o.local i)) os around in (
       and_from _ _ (step_holds x k is) (holds_any (behind open_flow x k)),
-      ap (where_reached (all_open os)) (step_behind x k is) ∙ all_both (λ (o : Opened). not (is_target x o.local)) (λ (o : Opened). k o.local o.class) os free open_there,
+      ap (where_reached (all_open os)) (step_after x k is) ∙ all_both (λ (o : Opened). not (is_target x o.local)) (λ (o : Opened). k o.local o.class) os free open_there,
     )
   where
     holds_any : (k : Option Open) → holds_along open_flow open_check core.NoCode k ≡ true

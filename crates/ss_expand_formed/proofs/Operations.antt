@@ -189,7 +189,7 @@ module _ (z : Frame) (agrees : Agrees z) (os : List Opened) where
   Rec e = (k : source.Known) (l : Known) (made : List Ty) → Covers z k l → inside z.context (Some k) e ≡ [] → has_call e ≡ true → HasMade z (lifted s e made).made → Lifts z agrees k l e (lifted s e made)
 
   low_next : (made : List Ty) → z.body.flags.ctor ≡ true → 0 < next (ns z agrees) made
-  low_next made c = let l = agrees.behind_this c in omega arith
+  low_next made c = let l = agrees.after_this c in omega arith
 
   same_local : (x : ℕ) (v : Bool) → (x == x && beq v v) ≡ true
   same_local x true = and_from _ _ (eq-eqb x x refl) refl

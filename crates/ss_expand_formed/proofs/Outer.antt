@@ -27,8 +27,8 @@ use Rattle.ss_expand_formed.proofs.ExpressionsScopes.{no_fault}
 use Rattle.ss_expand_formed.proofs.ExpressionsPlaces.{At, env_at, IsKnown}
 use Rattle.ss_expand_formed.proofs.Fits.{FitStmt, FitBlock, FitAll}
 use Rattle.ss_expand_formed.proofs.Given.{named_at, typed_at, Stands, base_given}
-use Rattle.ss_expand_formed.proofs.FitsDeclared.{enter_at, behind_at, behind_env, behind_scope, behind_next, Placed, placed_left, placed_right, enter_stands}
-use Rattle.ss_expand_formed.proofs.FitsStatements.{Returns, behind_stands, stmt_fits}
+use Rattle.ss_expand_formed.proofs.FitsDeclared.{enter_at, after_at, after_env, after_scope, after_next, Placed, placed_left, placed_right, enter_stands}
+use Rattle.ss_expand_formed.proofs.FitsStatements.{Returns, after_stands, stmt_fits}
 
 -- ---- whether a block has one
 
@@ -63,15 +63,15 @@ module _ (p : ProgramTree) (faultless : program_faults p ≡ []) (x : Context) (
   abbrev T : At → Scope
   T a = typed_at p x false a
 
-  -- an outermost statement, and the place behind it
+  -- an outermost statement, and the place after it
   record IsOuter (a : At) (y : written.StmtTree) : Type 0 where
     fit : FitStmt P C x true first (stmt (env_at p a) y)
-    here : Here (behind_at p a y)
+    here : Here (after_at p a y)
 
   ordinary : (a : At) → Here a → (y : written.StmtTree) → Placed p x a.next (declared_in y) → naming.stmt_faults (U a) y ≡ [] → stmt_faults constructor_body (T a) y ≡ [] → misplaced_at (stmt (env_at p a) y) ≡ [] → IsOuter a y
   ordinary a here y placed ns ts ws = record {
     fit = stmt_fits p faultless x is_known false true first Nothing returns a here y placed ns ts ws;
-    here = behind_stands p faultless x is_known false true first Nothing returns a here y placed ns ts ws;
+    here = after_stands p faultless x is_known false true first Nothing returns a here y placed ns ts ws;
   }
 
   no_base : (s : Scope) (y : written.StmtTree) (may : Bool) → base_call y ≡ None → outermost_faults k s y may (base_call y) ≡ [] → stmt_faults constructor_body s y ≡ []
@@ -93,12 +93,12 @@ module _ (p : ProgramTree) (faultless : program_faults p ≡ []) (x : Context) (
       let ts = none_left (outermost_faults k (T a) y may (base_call y)) _ types in
       let ws = none_left (misplaced_at (stmt (env_at p a) y)) _ words in
       let o = outer_fits a here y (placed_left p x a.next (declared_in y) (declared_in_all ys) placed) ns.0 may ts.0 ws.0 in
-      let b = behind_at p a y in
-      let more : Placed p x b.next (declared_in_all ys) = subst (λ n. Placed p x n (declared_in_all ys)) (sym (behind_next p a y)) (placed_right p x a.next (declared_in y) (declared_in_all ys) placed) in
-      let named : naming.stmts_faults (U b) ys ≡ [] = subst (λ s. naming.stmts_faults s ys ≡ []) (behind_scope p false false a y) ns.1 in
-      let typed : constructor_stmts k (T b) (may && is_first_assignment k (T a) y) ys ≡ [] = subst (λ s. constructor_stmts k s (may && is_first_assignment k (T a) y) ys ≡ []) (behind_scope p false false a y) ts.1 in
-      let worded : misplaced_along (stmts (env_at p b) ys) ≡ [] = subst (λ e. misplaced_along (stmts e ys) ≡ []) (behind_env p a y) ws.1 in
-      (o.fit, subst (λ e. FitAll P C x true first (stmts e ys)) (sym (behind_env p a y)) (all_fit b o.here ys more named (may && is_first_assignment k (T a) y) typed worded))
+      let b = after_at p a y in
+      let more : Placed p x b.next (declared_in_all ys) = subst (λ n. Placed p x n (declared_in_all ys)) (sym (after_next p a y)) (placed_right p x a.next (declared_in y) (declared_in_all ys) placed) in
+      let named : naming.stmts_faults (U b) ys ≡ [] = subst (λ s. naming.stmts_faults s ys ≡ []) (after_scope p false false a y) ns.1 in
+      let typed : constructor_stmts k (T b) (may && is_first_assignment k (T a) y) ys ≡ [] = subst (λ s. constructor_stmts k s (may && is_first_assignment k (T a) y) ys ≡ []) (after_scope p false false a y) ts.1 in
+      let worded : misplaced_along (stmts (env_at p b) ys) ≡ [] = subst (λ e. misplaced_along (stmts e ys) ≡ []) (after_env p a y) ws.1 in
+      (o.fit, subst (λ e. FitAll P C x true first (stmts e ys)) (sym (after_env p a y)) (all_fit b o.here ys more named (may && is_first_assignment k (T a) y) typed worded))
 
   pub constructor_block_fits : (a : At) → Here a → (b : written.BlockTree) → Placed p x a.next (declared_in_block b) → naming.block_faults (U a) b ≡ [] → (may : Bool) → constructor_block k (T a) may b ≡ [] → misplaced_in (block (env_at p a) b) ≡ [] → FitBlock P C x true first (block (env_at p a) b)
   constructor_block_fits a here (written.BlockOf q ys r) placed names may types words = all_fit (enter_at a) (enter_stands p faultless x is_known false true first a here) ys placed names may types words

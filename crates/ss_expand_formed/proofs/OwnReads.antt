@@ -1,4 +1,4 @@
--- The reads of a resolved expression: what stands behind `this` is a field that the class has.
+-- The reads of a resolved expression: what stands after `this` is a field that the class has.
 use Rattle.std.proofs.Common.{◌≡◌, ℕ, ◌+◌, ◌-◌, ◌*◌, ◌/◌, ◌%◌, leb, arith, List, Bool, true, false, Option, Some, None, refl, sym, ◌∙◌, ap, inl, inr, ◌⊎◌, ⊎_elim}
 use Rattle.std.specs.Prelude.{not, ◌&&◌, ◌||◌, is_some, option_and_then, unwrap_or, codes, if◌then◌else◌}
 use Rattle.std.specs.Str.{bytes_eq}
@@ -23,7 +23,7 @@ use Rattle.ss_resolver_rules.specs.Numbers.{field_id, class_in}
 use Rattle.ss_resolver_rules.specs.Names.{Env, known, within}
 use Rattle.ss_resolver_rules.specs.declared.known.Known.{Known}
 use Rattle.ss_resolver_rules.specs.declared.known.Known.TheVariants.{Variable, BoundName}
-use Rattle.ss_resolver_rules.specs.Expressions.{this, read_field, known_or_field, field_behind, state_word, third_class, member, method_call, base_call, owner_question, call_of, question, called_behind, called_bare, expr, call, args}
+use Rattle.ss_resolver_rules.specs.Expressions.{this, read_field, known_or_field, field_after, state_word, third_class, member, method_call, base_call, owner_question, call_of, question, called_after, called_bare, expr, call, args}
 
 -- Each field that is read of `this` passes the test. What a call or a word of conditions holds isn't looked at.
 abbrev pub own_reads : (ℕ → Bool) → ExprTree → Bool
@@ -101,12 +101,12 @@ question_asked e p (AClass k) o n es given = refl
 question_asked e p (AValue t) o n es given = refl
 question_asked e p TheConsole o n es given = refl
 
-behind_asked : (e : Env) (p : Place) (r : Receiver) (o : ExprTree) (n : List ℕ) (es : Arguments) (given : typed.Arguments) (c : Callee) → is_asked (called_behind e p r o n es given c) ≡ true
-behind_asked e p r o n es given (AMethod m) = call_asked e p r o given m
-behind_asked e p r o n es given (AWord k) = question_asked e p r o n es given
-behind_asked e p r o n es given (APrint is_line) = refl
-behind_asked e p r o n es given ABase = refl
-behind_asked e p r o n es given NoCallee = refl
+after_asked : (e : Env) (p : Place) (r : Receiver) (o : ExprTree) (n : List ℕ) (es : Arguments) (given : typed.Arguments) (c : Callee) → is_asked (called_after e p r o n es given c) ≡ true
+after_asked e p r o n es given (AMethod m) = call_asked e p r o given m
+after_asked e p r o n es given (AWord k) = question_asked e p r o n es given
+after_asked e p r o n es given (APrint is_line) = refl
+after_asked e p r o n es given ABase = refl
+after_asked e p r o n es given NoCallee = refl
 
 bare_asked : (e : Env) (p q : Place) (given : typed.Arguments) (c : Callee) → is_asked (called_bare e p q given c) ≡ true
 bare_asked e p q given (AMethod m) = method_asked e p e.scope.class (this e q) given m
@@ -118,7 +118,7 @@ bare_asked e p q given NoCallee = refl
 pub called_asked : (e : Env) (p : Place) (es : Arguments) (given : typed.Arguments) (f : text.ExprTree) → is_asked (call e p es given f) ≡ true
 called_asked e p es given (text.NameOf q n) = bare_asked e p q given (name_callee e.scope n)
 called_asked e p es given (text.MemberOf q a n) =
-    behind_asked e p (receiver e.scope a (static e.scope a)) (expr e a) n.text es given (member_callee e.scope n.text (receiver e.scope a (static e.scope a)))
+    after_asked e p (receiver e.scope a (static e.scope a)) (expr e a) n.text es given (member_callee e.scope n.text (receiver e.scope a (static e.scope a)))
 called_asked e p es given f = refl
 
 -- ---- what is `this`
@@ -136,7 +136,7 @@ name_not_this e p n None = field_not_this e p (this e p) (field_of e.scope.class
 abbrev IsOwn : Scope → Option Ty → Type 0
 IsOwn s t = (class_in t ≡ class_number s.class) ⊎ (class_in t ≡ 0)
 
--- a read behind a dot that gives no field and no length has no class
+-- a read after a dot that gives no field and no length has no class
 member_none : (cs : List ClassTree) (n : List ℕ) (t : Option ℕ) → is_array_number (unwrap_or t 0) ≡ false → declared_place (unwrap_or t 0) ≡ None → class_in (member_type cs n t) ≡ 0
 member_none cs n None a d = refl
 member_none cs n (Some t) a d = rw (a, d) refl
@@ -169,15 +169,15 @@ module _ (s : Scope) (n : List ℕ) where
   read_by (text.BaseOf p) t h = refl
   read_by a t h = h
 
-behind_this : (e : Env) (p : Place) (o : ExprTree) (n : List ℕ) (k : Option ℕ) → is_this (field_behind e p o n k) ≡ true → (is_this o ≡ true) × (k ≡ None)
-behind_this e p o n None h = (h, refl)
-behind_this e p o n (Some k) h = absurd (false≢true (sym (field_not_this e p o (field_of e.scope.classes k n)) ∙ h))
+after_this : (e : Env) (p : Place) (o : ExprTree) (n : List ℕ) (k : Option ℕ) → is_this (field_after e p o n k) ≡ true → (is_this o ≡ true) × (k ≡ None)
+after_this e p o n None h = (h, refl)
+after_this e p o n (Some k) h = absurd (false≢true (sym (field_not_this e p o (field_of e.scope.classes k n)) ∙ h))
 
-length_this : (e : Env) (p : Place) (o : ExprTree) (n : List ℕ) (b : Bool) (k : Option ℕ) → is_this (if b then LengthOf p o else field_behind e p o n k) ≡ true → (is_this o ≡ true) × (b ≡ false) × (k ≡ None)
+length_this : (e : Env) (p : Place) (o : ExprTree) (n : List ℕ) (b : Bool) (k : Option ℕ) → is_this (if b then LengthOf p o else field_after e p o n k) ≡ true → (is_this o ≡ true) × (b ≡ false) × (k ≡ None)
 length_this e p o n true k h = absurd (false≢true h)
-length_this e p o n false k h = let r = behind_this e p o n k h in (r.0, refl, r.1)
+length_this e p o n false k h = let r = after_this e p o n k h in (r.0, refl, r.1)
 
-member_this : (e : Env) (p : Place) (o : ExprTree) (n : List ℕ) (w : Bool) (t : ℕ) → is_this (if w then StateOf p (state_word n) o else if is_array_number t then LengthOf p o else field_behind e p o n (declared_place t)) ≡ true →
+member_this : (e : Env) (p : Place) (o : ExprTree) (n : List ℕ) (w : Bool) (t : ℕ) → is_this (if w then StateOf p (state_word n) o else if is_array_number t then LengthOf p o else field_after e p o n (declared_place t)) ≡ true →
     (is_this o ≡ true) × (is_array_number t ≡ false) × (declared_place t ≡ None)
 member_this e p o n true t h = absurd (false≢true h)
 member_this e p o n false t h = length_this e p o n (is_array_number t) (declared_place t) h
@@ -229,9 +229,9 @@ module _ (test : ℕ → Bool) where
   reads_if true x y h g = h
   reads_if false x y h g = g
 
-  behind_reads : (e : Env) (p : Place) (o : ExprTree) (n : List ℕ) → PassOwn e → own_reads test o ≡ true → (k : Option ℕ) → (is_this o ≡ true → (k ≡ Some e.scope.class) ⊎ (k ≡ None)) → own_reads test (field_behind e p o n k) ≡ true
-  behind_reads e p o n own h None is = h
-  behind_reads e p o n own h (Some k) is =
+  after_reads : (e : Env) (p : Place) (o : ExprTree) (n : List ℕ) → PassOwn e → own_reads test o ≡ true → (k : Option ℕ) → (is_this o ≡ true → (k ≡ Some e.scope.class) ⊎ (k ≡ None)) → own_reads test (field_after e p o n k) ≡ true
+  after_reads e p o n own h None is = h
+  after_reads e p o n own h (Some k) is =
       read_reads e p o (field_of e.scope.classes k n) h
       (λ this f g.
       ⊎_elim
@@ -243,7 +243,7 @@ module _ (test : ℕ → Bool) where
   member_reads e p o n t own h is =
       reads_if (is_state_read n) _ _ refl
       (reads_if (is_array_number t) _ _ h
-      (behind_reads e p o n own h (declared_place t)
+      (after_reads e p o n own h (declared_place t)
       (λ this. ⊎_elim (λ same. inl (ap declared_place same ∙ own_place e.scope.class)) (λ none. inr (ap declared_place none)) (is this))))
 
   pub expr_reads : (e : Env) (a : text.ExprTree) → PassOwn e → own_reads test (expr e a) ≡ true

@@ -16,7 +16,7 @@ use Rattle.ss_expand_rules.specs.Calls.{has_call}
 use Rattle.ss_typed.specs.Shapes.{place_of}
 use Rattle.ss_expand_rules.specs.Lifting.{ElaborationContext, value}
 use Rattle.ss_expand_rules.specs.Code.{Coded}
-use Rattle.ss_expand_rules.specs.Simple.{write_of, assign_settled, settle, assign_behind, step_operator, simple}
+use Rattle.ss_expand_rules.specs.Simple.{write_of, assign_settled, settle, assign_after, step_operator, simple}
 use Rattle.ss_expand_rules.specs.Statements.{stmts}
 use Rattle.ss_expand_formed.proofs.Shape.{Code, each-append}
 use Rattle.ss_expand_formed.proofs.Choices.{where_chosen}
@@ -58,7 +58,7 @@ module _ (F : ExprTree → Type 0) (A : Arguments → Type 0) (P : core.ExprTree
   pub own_runs : (x : SimpleTree) (made : List Ty) → is_own s.program t x ≡ true → Assigns F x → Passing (simple s x made).code
   own_runs (AssignOf (FieldOf q (ThisOf r v) f u) operator.Set e) made own h =
       let l = FieldOf q (ThisOf r v) f u in
-      where_chosen (λ (c : Coded). Passing c.code) (has_call l || has_call e) (assign_behind s e (settle s l made)) (assign_settled s l e made) (λ yes. settled_runs q r v f u e made own h) (λ other. settled_runs q r v f u e made own h)
+      where_chosen (λ (c : Coded). Passing c.code) (has_call l || has_call e) (assign_after s e (settle s l made)) (assign_settled s l e made) (λ yes. settled_runs q r v f u e made own h) (λ other. settled_runs q r v f u e made own h)
   own_runs (AssignOf (FieldOf q (ThisOf r v) f u) operator.Add e) made own h = settled_runs q r v f u (BinaryOf q op.Add (FieldOf q (ThisOf r v) f u) e) made own h
   own_runs (AssignOf (FieldOf q (ThisOf r v) f u) operator.Subtract e) made own h = settled_runs q r v f u (BinaryOf q op.Subtract (FieldOf q (ThisOf r v) f u) e) made own h
   own_runs (AssignOf (FieldOf q (ThisOf r v) f u) operator.Multiply e) made own h = settled_runs q r v f u (BinaryOf q op.Multiply (FieldOf q (ThisOf r v) f u) e) made own h

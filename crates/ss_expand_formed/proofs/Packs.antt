@@ -76,26 +76,26 @@ module _ (t : ℕ) where
     one_inside : (p : Place) (e : core.ExprTree) (xs ys : Code) → packs_at_returns t (code_of xs) ≡ true → packs_at_returns t (code_of ys) ≡ true → packs_at_returns t (code_of (IfStmt p e (code_of xs) (code_of ys) ∷ [])) ≡ true
     one_inside p e xs ys h g = rw (h, g) refl
 
-    pub returns_behind_packs : (os : List Opened) (n : ℕ) (xs : Code) (m : ℕ) → are_bounded t low first os n ≡ true → Shape t low first os n xs m → packs_at_returns t (code_of xs) ≡ true
-    returns_behind_packs os n xs m b Nothing = refl
-    returns_behind_packs os n xs i b (Join {m = m} {xs = ys} {ys = zs} a c) =
-        packs-append ys zs (returns_behind_packs os n ys m b a) (returns_behind_packs os m zs i (later t low first n m (grows t low first os n ys m a) os b) c)
-    returns_behind_packs os n xs m b (Step x is h) = step_passes x is
-    returns_behind_packs os n xs m b (Temporary x is h e) = step_passes x is
-    returns_behind_packs os n xs m b (Lazily {xs = ys} p e x y is also h i a) =
-        let inside = packs-append ys (y ∷ []) (returns_behind_packs os (suc n) ys m (later t low first n (suc n) (omega arith) os b) a) (step_passes y also) in
+    pub returns_after_packs : (os : List Opened) (n : ℕ) (xs : Code) (m : ℕ) → are_bounded t low first os n ≡ true → Shape t low first os n xs m → packs_at_returns t (code_of xs) ≡ true
+    returns_after_packs os n xs m b Nothing = refl
+    returns_after_packs os n xs i b (Join {m = m} {xs = ys} {ys = zs} a c) =
+        packs-append ys zs (returns_after_packs os n ys m b a) (returns_after_packs os m zs i (later t low first n m (grows t low first os n ys m a) os b) c)
+    returns_after_packs os n xs m b (Step x is h) = step_passes x is
+    returns_after_packs os n xs m b (Temporary x is h e) = step_passes x is
+    returns_after_packs os n xs m b (Lazily {xs = ys} p e x y is also h i a) =
+        let inside = packs-append ys (y ∷ []) (returns_after_packs os (suc n) ys m (later t low first n (suc n) (omega arith) os b) a) (step_passes y also) in
         packs-append (x ∷ []) (IfStmt p e (code_of (ys ++ y ∷ [])) core.NoCode ∷ []) (step_passes x is) (one_inside p e (ys ++ y ∷ []) [] inside refl)
-    returns_behind_packs os n xs i b (Branch {m = m} {xs = ys} {ys = zs} p e a c) =
-        one_inside p e ys zs (returns_behind_packs os n ys m b a) (returns_behind_packs os m zs i (later t low first n m (grows t low first os n ys m a) os b) c)
-    returns_behind_packs os n xs i b (Loop {m = m} {xs = ys} {ys = zs} p is e a c) =
-        let front = returns_behind_packs os n ys m b a in
-        let turn = returns_behind_packs os m zs i (later t low first n m (grows t low first os n ys m a) os b) c in
+    returns_after_packs os n xs i b (Branch {m = m} {xs = ys} {ys = zs} p e a c) =
+        one_inside p e ys zs (returns_after_packs os n ys m b a) (returns_after_packs os m zs i (later t low first n m (grows t low first os n ys m a) os b) c)
+    returns_after_packs os n xs i b (Loop {m = m} {xs = ys} {ys = zs} p is e a c) =
+        let front = returns_after_packs os n ys m b a in
+        let turn = returns_after_packs os m zs i (later t low first n m (grows t low first os n ys m a) os b) c in
         rw (front, turn) refl
-    returns_behind_packs os n xs m b (Leave p e ys h) =
+    returns_after_packs os n xs m b (Leave p e ys h) =
         let last = packs-append (map pack_of (reverse os)) (ys ++ ReturnStmt p e ∷ []) (packs_pass n (reverse os) (reverse_bounded os n b)) (this_passes ys p e h) in
         subst (λ code. packs_at_returns t (code_of code) ≡ true) (sym (append_assoc (map pack_of (reverse os)) ys (ReturnStmt p e ∷ []))) last
-    returns_behind_packs os n xs m b (Expose {xs = ys} x o ends is h e a) =
-        let inside = returns_behind_packs (os ++ o ∷ []) (suc n) ys m (bounded_within t low first os o n e b) a in
+    returns_after_packs os n xs m b (Expose {xs = ys} x o ends is h e a) =
+        let inside = returns_after_packs (os ++ o ∷ []) (suc n) ys m (bounded_within t low first os o n e b) a in
         let block = packs-append ys (closing o ends) inside (closing_passes o ends (omega arith)) in
         packs-append (x ∷ []) (UnpackStmt o.place o.local o.class ∷ (ys ++ closing o ends)) (step_passes x is) block
 
@@ -115,7 +115,7 @@ pack_at_returns p n y at =
     (λ yes.
     let has = has_this y (delayed_not_static y.flags.ctor y.flags.is_static (is_none y.result) y.flags.delayed (have_flags p n y at) yes) in
     let order = s.order in
-    let packs = returns_behind_packs y.class (argument_count y) s.first (omega arith) [] 0 s.code s.count refl s.shape in
+    let packs = returns_after_packs y.class (argument_count y) s.first (omega arith) [] 0 s.code s.count refl s.shape in
     or_right (not y.flags.delayed) _ (subst (λ code. packs_at_returns y.class code ≡ true) s.is_code packs))
     (λ no. or_left (not y.flags.delayed) _ (ap not no))
     (cases_Bool y.flags.delayed)

@@ -52,7 +52,7 @@ module _ (z : Frame) (agrees : Agrees z) where
   nowhere None = tt
   nowhere (Some k) = tt
 
-  -- code that keeps nulls out, behind which this is known
+  -- code that keeps nulls out, after which this is known
   pub record Goes (l : Known) (k : Option source.Known) (xs : Code) : Type 0 where
     pub held : holds_along (flow z) (check z) (code_of xs) (Some l) ≡ true
     pub covers : CoversWhere k (at_end (flow z) (code_of xs) (Some l))
@@ -66,7 +66,7 @@ module _ (z : Frame) (agrees : Agrees z) where
     covers = subst (CoversWhere k) (sym (at_end-append (flow z) xs ys (Some l) ∙ ap (at_end (flow z) (code_of ys)) h.at)) g.covers;
   }
 
-  -- code behind code
+  -- code after code
   pub goes_then : (l : Known) (a b : Option source.Known) (xs ys : Code) → Goes l a xs → (a ≡ None → b ≡ None) → ((k : source.Known) (m : Known) → a ≡ Some k → Covers z k m → Goes m b ys) → Goes l b (xs ++ ys)
   goes_then l a b xs ys h none rest = by (at_end (flow z) (code_of xs) (Some l)) refl a h.covers none rest
     where

@@ -1,4 +1,4 @@
--- What is known behind a value that is put into a local.
+-- What is known after a value that is put into a local.
 use Rattle.std.proofs.Common.{◌≡◌, ℕ, ◌≤◌, [], ◌∷◌, ◌++◌, Bool, true, false, Option, Some, None, refl, sym, ◌∙◌, ap, arith}
 use Rattle.std.specs.Prelude.{not, ◌==◌, ◌||◌, if◌then◌else◌}
 use Rattle.std.proofs.lemmas.Bool.{and_from, eq-eqb, ne_eqb, false≢true}
@@ -86,16 +86,16 @@ module _ (z : Frame) where
   pub runs_one : (l n : Known) (x : core.StmtTree) → behind flow x l ≡ Some n → holds_at flow check x l ≡ true → Runs l (x ∷ []) n
   runs_one l n x h i = record { at = h; checked = and_from _ _ i refl }
 
-  -- ---- behind it
+  -- ---- after it
 
   abbrev pub putting : Place → ℕ → Source → Known → Known
   putting p x d l = known_after z.program z.body (put p x d) l
 
-  put_behind : (p : Place) (x : ℕ) (d : Source) (l : Known) → behind flow (put p x d) l ≡ Some (putting p x d l)
-  put_behind p x (Pure e) l = refl
-  put_behind p x (Created q t es) l = refl
-  put_behind p x (CreatedArray q t e) l = refl
-  put_behind p x (Called q callee es) l = refl
+  put_after : (p : Place) (x : ℕ) (d : Source) (l : Known) → behind flow (put p x d) l ≡ Some (putting p x d l)
+  put_after p x (Pure e) l = refl
+  put_after p x (Created q t es) l = refl
+  put_after p x (CreatedArray q t e) l = refl
+  put_after p x (Called q callee es) l = refl
 
   pub put_facts : (p : Place) (x : ℕ) (d : Source) (l : Known) (y : ℕ) → (putting p x d l).facts y ≡ (if x == y then source_never l d else l.facts y)
   put_facts p x (Pure e) l y = refl
@@ -140,7 +140,7 @@ module _ (z : Frame) where
   put_holds p x (Called q callee es) l h i = and_from _ _ h (keep_at (is_non_null_type (local_type z x)) _ i)
 
   pub put_runs : (p : Place) (x : ℕ) (d : Source) (l : Known) → source_enters l d ≡ true → (is_non_null_type (local_type z x) ≡ true → source_never l d ≡ true) → Runs l (put p x d ∷ []) (putting p x d l)
-  put_runs p x d l h i = runs_one l (putting p x d l) (put p x d) (put_behind p x d l) (put_holds p x d l h i)
+  put_runs p x d l h i = runs_one l (putting p x d l) (put p x d) (put_after p x d l) (put_holds p x d l h i)
 
   -- a local that holds null, as a temporary does
   pub nullable_local : {X : Type 0} (x : ℕ) (t : Ty) → local_type z x ≡ Some t → is_non_null t ≡ false → is_non_null_type (local_type z x) ≡ true → X

@@ -22,7 +22,7 @@ use Rattle.ss_resolver_names_rules.specs.Expressions.{expr_faults, asked_class, 
 use Rattle.ss_resolver_types_heads.specs.Wants.{Want, AReference, ClassName, has_no_value, known, wrong}
 use Rattle.ss_resolver_types_heads.specs.Calls.{ExprContext, Called, Taking, Refused, called_owner, asks_level, called_value, is_wrong_call, argument_wants}
 use Rattle.ss_resolver_types_heads.specs.Expressions.{AsValue, faults, argument_faults}
-use Rattle.ss_resolver_rules.specs.Expressions.{class_named_by, first_class, third_class, state_question, owner_question, called_behind, expr, args}
+use Rattle.ss_resolver_rules.specs.Expressions.{class_named_by, first_class, third_class, state_question, owner_question, called_after, expr, args}
 use Rattle.ss_resolver_rules.specs.Programs.{resolved}
 use Rattle.ss_expand_rules.specs.Calls.{has_call}
 use Rattle.ss_store_rules.specs.Types.{is_reference, is_word}
@@ -108,8 +108,8 @@ module _ (p : ProgramTree) (x : Context) (is_known : IsKnown p x) (static lacks 
       let level : may_have_levels (statics.static (scope_at p a) y) ≡ true = ap may_have_levels (sym same) ∙ asked.1 in
       let callee_is : member_callee (scope_at p a) n.text (AValue (statics.static (scope_at p a) y)) ≡ AWord 1 = rw call (level_known (statics.static (scope_at p a) y) some level) in
       let tree_is : expr (env_at p a) (text.CallOf q (text.MemberOf m y n) es) ≡ StateOf q (state_question n.text (first_class (env_at p a) es)) (expr (env_at p a) y) =
-      ap (λ k. called_behind (env_at p a) q k (expr (env_at p a) y) n.text es (args (env_at p a) es) (member_callee (scope_at p a) n.text k)) r
-      ∙ ap (called_behind (env_at p a) q (AValue (statics.static (scope_at p a) y)) (expr (env_at p a) y) n.text es (args (env_at p a) es)) callee_is in
+      ap (λ k. called_after (env_at p a) q k (expr (env_at p a) y) n.text es (args (env_at p a) es) (member_callee (scope_at p a) n.text k)) r
+      ∙ ap (called_after (env_at p a) q (AValue (statics.static (scope_at p a) y)) (expr (env_at p a) y) n.text es (args (env_at p a) es)) callee_is in
       let static_is : statics.static (scope_at p a) (text.CallOf q (text.MemberOf m y n) es) ≡ Some ty.Bool =
       ap (λ k. call_type p.classes (called_with (count es) (member_callee (scope_at p a) n.text k))) r ∙ ap (λ k. call_type p.classes (called_with (count es) k)) callee_is ∙ (rw asked.2 refl) in
       record {
@@ -232,8 +232,8 @@ module _ (p : ProgramTree) (x : Context) (is_known : IsKnown p x) (static lacks 
       let w = owner_asked q n.text es word ih wrong types known in
       let callee_is : member_callee (scope_at p a) n.text TheOwner ≡ AWord (owner_count n.text) = rw word refl in
       let tree_is : expr (env_at p a) (text.CallOf q (text.MemberOf m y n) es) ≡ owner_question (env_at p a) q n.text es (args (env_at p a) es) =
-      ap (λ k. called_behind (env_at p a) q k (expr (env_at p a) y) n.text es (args (env_at p a) es) (member_callee (scope_at p a) n.text k)) r
-      ∙ ap (called_behind (env_at p a) q TheOwner (expr (env_at p a) y) n.text es (args (env_at p a) es)) callee_is in
+      ap (λ k. called_after (env_at p a) q k (expr (env_at p a) y) n.text es (args (env_at p a) es) (member_callee (scope_at p a) n.text k)) r
+      ∙ ap (called_after (env_at p a) q TheOwner (expr (env_at p a) y) n.text es (args (env_at p a) es)) callee_is in
       let static_is : statics.static (scope_at p a) (text.CallOf q (text.MemberOf m y n) es) ≡ Some ty.Bool =
       ap (λ k. call_type p.classes (called_with (count es) (member_callee (scope_at p a) n.text k))) r ∙ ap (λ k. call_type p.classes (called_with (count es) k)) callee_is ∙ rw w.1 (owners_type n.text) in
       record {

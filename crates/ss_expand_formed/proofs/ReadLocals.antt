@@ -81,7 +81,7 @@ module _ (low : ℕ) where
       on_either (λ (z : Known_names). have_numbers low n z ≡ true) (is_some (named_in ls x)) ls (ls ++ (x, k) ∷ []) h
       (list_all-append (λ (l : List ℕ × Known). has_number low n l.1) ls ((x, k) ∷ []) ∙ rw (h, g) refl)
 
-  -- what is known behind one more local
+  -- what is known after one more local
   one_more : (e : Env) → is_numbered low e ≡ true → low ≤ e.next → (x : List ℕ) (t : Ty) → (have_numbers low (e.next + 1) (with_named e.inner x (Variable e.next t)) && list_all (have_numbers low (e.next + 1)) e.outer) ≡ true
   one_more e h l x t =
       let both = and_parts (have_numbers low e.next e.inner) (list_all (have_numbers low e.next) e.outer) h in
@@ -111,19 +111,19 @@ module _ (low : ℕ) where
   stays : (e : Env) → is_numbered low e ≡ true → Numbered low e (e.next + 0)
   stays e h = record { names = h; next = omega arith }
 
-  behind_numbered : (e : Env) (x : written.StmtTree) → is_numbered low e ≡ true → low ≤ e.next → Numbered low (behind e x) (e.next + length (declared_in x))
-  behind_numbered e (written.DeclareOf d) h l = let r = all_declared e d.ty d.declarators h l in let n = declaration_length d in let m = r.next in record { names = r.names; next = omega arith }
-  behind_numbered e (written.InBlock b) h l = record { names = past_numbered e (declared_in_block b) h; next = refl }
-  behind_numbered e (written.SimpleOf x) h l = stays e h
-  behind_numbered e (written.IfOf p c a) h l = record { names = past_numbered e (declared_in a) h; next = refl }
-  behind_numbered e (written.IfElseOf p c a b) h l = record { names = past_numbered e (declared_in a ++ declared_in b) h; next = refl }
-  behind_numbered e (written.WhileOf p c es a) h l = record { names = past_numbered e (declared_in a) h; next = refl }
-  behind_numbered e (written.ForOf p i c x es a) h l = record { names = past_numbered e (declared_first i ++ declared_in a) h; next = refl }
-  behind_numbered e (written.ReturnOf p c) h l = stays e h
-  behind_numbered e (written.AssertOf p c) h l = stays e h
-  behind_numbered e (written.AssumeOf p c) h l = stays e h
-  behind_numbered e (written.ExposeOf p c n b) h l = record { names = past_numbered e (declared_in_block b) h; next = refl }
-  behind_numbered e (written.EmptyOf p) h l = stays e h
+  after_numbered : (e : Env) (x : written.StmtTree) → is_numbered low e ≡ true → low ≤ e.next → Numbered low (behind e x) (e.next + length (declared_in x))
+  after_numbered e (written.DeclareOf d) h l = let r = all_declared e d.ty d.declarators h l in let n = declaration_length d in let m = r.next in record { names = r.names; next = omega arith }
+  after_numbered e (written.InBlock b) h l = record { names = past_numbered e (declared_in_block b) h; next = refl }
+  after_numbered e (written.SimpleOf x) h l = stays e h
+  after_numbered e (written.IfOf p c a) h l = record { names = past_numbered e (declared_in a) h; next = refl }
+  after_numbered e (written.IfElseOf p c a b) h l = record { names = past_numbered e (declared_in a ++ declared_in b) h; next = refl }
+  after_numbered e (written.WhileOf p c es a) h l = record { names = past_numbered e (declared_in a) h; next = refl }
+  after_numbered e (written.ForOf p i c x es a) h l = record { names = past_numbered e (declared_first i ++ declared_in a) h; next = refl }
+  after_numbered e (written.ReturnOf p c) h l = stays e h
+  after_numbered e (written.AssertOf p c) h l = stays e h
+  after_numbered e (written.AssumeOf p c) h l = stays e h
+  after_numbered e (written.ExposeOf p c n b) h l = record { names = past_numbered e (declared_in_block b) h; next = refl }
+  after_numbered e (written.EmptyOf p) h l = stays e h
 
 -- ---- statements
 
@@ -145,7 +145,7 @@ OtherSimple (BaseCallOf p es) = Others es
 from_one : (n x : ℕ) → is_from 1 n x ≡ true → is_other x ≡ true
 from_one n x h = let l = leb-true 1 x (and_parts (nat_le 1 x) (nat_lt x n) h).0 in other x (omega arith)
 
--- a place behind `this`
+-- a place after `this`
 pub record IsInside (e : Env) : Type 0 where
   pub names : is_numbered 1 e ≡ true
   pub next : 1 ≤ e.next
@@ -222,8 +222,8 @@ first_inside e i b = let l = i.next in inside (behind_first e b) (e.next + lengt
 past_inside : (e : Env) → IsInside e → (ds : List rules.Declared) → IsInside (past e ds)
 past_inside e i ds = let l = i.next in record { names = past_numbered 1 e ds i.names; next = omega arith }
 
-behind_inside : (e : Env) → IsInside e → (x : written.StmtTree) → IsInside (behind e x)
-behind_inside e i x = let l = i.next in inside (behind e x) (e.next + length (declared_in x)) (omega arith) (behind_numbered 1 e x i.names i.next)
+after_inside : (e : Env) → IsInside e → (x : written.StmtTree) → IsInside (behind e x)
+after_inside e i x = let l = i.next in inside (behind e x) (e.next + length (declared_in x)) (omega arith) (after_numbered 1 e x i.names i.next)
 
 mutual
   stmt_other : (e : Env) → IsInside e → (x : written.StmtTree) → At OtherSimple Other (stmt e x)
@@ -248,4 +248,4 @@ mutual
 
   stmts_other : (e : Env) → IsInside e → (ss : written.StmtTrees) → Along OtherSimple Other (stmts e ss)
   stmts_other e i written.NoMore = tt
-  stmts_other e i (written.Before x xs) = (stmt_other e i x, stmts_other (behind e x) (behind_inside e i x) xs)
+  stmts_other e i (written.Before x xs) = (stmt_other e i x, stmts_other (behind e x) (after_inside e i x) xs)

@@ -16,7 +16,7 @@ use Rattle.ss_resolver_rules.specs.Names.{Env, known, within}
 use Rattle.ss_resolver_rules.specs.declared.known.Known.{Known}
 use Rattle.ss_resolver_rules.specs.declared.known.Known.TheVariants.{Variable, BoundName}
 use Rattle.ss_resolver_rules.specs.Numbers.{class_in, method_id, table_place}
-use Rattle.ss_resolver_rules.specs.Expressions.{this, read_field, known_or_field, field_behind, state_word, third_class, member, method_call, base_call, owner_question, place_or_own, call_of, question, called_behind, called_bare, expr, call, args}
+use Rattle.ss_resolver_rules.specs.Expressions.{this, read_field, known_or_field, field_after, state_word, third_class, member, method_call, base_call, owner_question, place_or_own, call_of, question, called_after, called_bare, expr, call, args}
 use Rattle.ss_expand_formed.proofs.Choosing.{on_either, all_three}
 use Rattle.ss_expand_formed.proofs.Shape.{is_from}
 use Rattle.ss_expand_formed.proofs.Resolving.{is_numbered, may_have, known_numbered}
@@ -61,14 +61,14 @@ module _ (f : ℕ → Bool) where
   field_passes e p o None h = refl
   field_passes e p o (Some d) h = h
 
-  behind_passes : (e : Env) (p : Place) (o : ExprTree) (x : List ℕ) (k : Option ℕ) → Passes o → Passes (field_behind e p o x k)
-  behind_passes e p o x None h = h
-  behind_passes e p o x (Some k) h = field_passes e p o (field_of e.scope.classes k x) h
+  after_passes : (e : Env) (p : Place) (o : ExprTree) (x : List ℕ) (k : Option ℕ) → Passes o → Passes (field_after e p o x k)
+  after_passes e p o x None h = h
+  after_passes e p o x (Some k) h = field_passes e p o (field_of e.scope.classes k x) h
 
   member_passes : (e : Env) (p : Place) (o : ExprTree) (x : List ℕ) (t : ℕ) → Passes o → Passes (member e p o x t)
   member_passes e p o x t h =
-      on_either Passes (is_state_read x) (StateOf p (state_word x) o) (if is_array_number t then LengthOf p o else field_behind e p o x (declared_place t)) h
-      (on_either Passes (is_array_number t) (LengthOf p o) (field_behind e p o x (declared_place t)) h (behind_passes e p o x (declared_place t) h))
+      on_either Passes (is_state_read x) (StateOf p (state_word x) o) (if is_array_number t then LengthOf p o else field_after e p o x (declared_place t)) h
+      (on_either Passes (is_array_number t) (LengthOf p o) (field_after e p o x (declared_place t)) h (after_passes e p o x (declared_place t) h))
 
   -- ---- calls
 
@@ -103,7 +103,7 @@ module _ (f : ℕ → Bool) where
   question_passes e p (AValue t) o x es given h g = h
   question_passes e p TheConsole o x es given h g = refl
 
-  called_passes : (e : Env) (p : Place) (r : Receiver) (o : ExprTree) (x : List ℕ) (es : text.Arguments) (given : Arguments) (c : Callee) → Passes o → args_pass f given ≡ true → Passes (called_behind e p r o x es given c)
+  called_passes : (e : Env) (p : Place) (r : Receiver) (o : ExprTree) (x : List ℕ) (es : text.Arguments) (given : Arguments) (c : Callee) → Passes o → args_pass f given ≡ true → Passes (called_after e p r o x es given c)
   called_passes e p r o x es given (AMethod m) h g = call_passes e p r o given m h g
   called_passes e p r o x es given (AWord k) h g = question_passes e p r o x es given h g
   called_passes e p r o x es given (APrint is_line) h g = refl

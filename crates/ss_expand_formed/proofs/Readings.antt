@@ -39,11 +39,11 @@ abbrev pub contract_reads : ℕ → ℕ → BodyTree → Bool
 contract_reads low high b = list_all (reads low high) b.entry && list_all (reads low high) b.exit && terms_read low high b.modifies
 
 -- the parameters stand from here to there
-abbrev pub behind_params : BodyTree → ℕ
-behind_params b = first_param b + length b.params
+abbrev pub after_params : BodyTree → ℕ
+after_params b = first_param b + length b.params
 
 abbrev pub reads_params : BodyTree → Bool
-reads_params b = contract_reads (first_param b) (behind_params b) b
+reads_params b = contract_reads (first_param b) (after_params b) b
 
 -- ---- in the environment of the parameters
 

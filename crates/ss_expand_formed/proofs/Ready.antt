@@ -51,10 +51,10 @@ use Rattle.ss_expand_formed.proofs.MildCode.{IsMild, given_is_mild}
 use Rattle.ss_expand_formed.proofs.Simulation.{Knows, KnowsAt, adds, adds_at, unreached, simples_go}
 use Rattle.ss_expand_formed.proofs.Starts.{fields_from, no_unassigned, own_complete, is_known, started}
 
-pub simple_behind : (xs ys : StmtTrees) → OnlySimple (before_all xs ys) → OnlySimple ys
-simple_behind NoMore ys h = h
-simple_behind (Before (SimpleOf x) xs) ys h = simple_behind xs ys h.1
-simple_behind (Before x xs) ys h = absurd h
+pub simple_after : (xs ys : StmtTrees) → OnlySimple (before_all xs ys) → OnlySimple ys
+simple_after NoMore ys h = h
+simple_after (Before (SimpleOf x) xs) ys h = simple_after xs ys h.1
+simple_after (Before x xs) ys h = absurd h
 
 abbrev pub nothing_first : Fields
 nothing_first f = false
@@ -89,7 +89,7 @@ module _ (p : ProgramTree) (k : ℕ) (c : ClassTree) (at : slice_get p.classes k
   abbrev End : Code → Option Fields → Option Fields
   End xs l = at_end (fields_flow (core_of p) y) (code_of xs) l
 
-  -- behind the copies and the beginnings of fields
+  -- after the copies and the beginnings of fields
   pub started_knows : (z : ElaborationContext) → z.program ≡ q → (l : Fields) → Knows (core_of p) y n nothing_first (record { own = λ i. false; above = false }) l →
       KnowsAt (core_of p) y n nothing_first (Some (assigned_by_initializers q (4 + 2 * k))) (End (stmts z (initializers q (4 + 2 * k)) []).code (Some l))
   started_knows z same l h =
@@ -108,7 +108,7 @@ module _ (p : ProgramTree) (k : ℕ) (c : ClassTree) (at : slice_get p.classes k
 
   -- ---- the code before `base(..)`
 
-  -- where these statements stand behind the beginnings of fields, and no more than these have begun
+  -- where these statements stand after the beginnings of fields, and no more than these have begun
   module _ (r : Builds q b) (onward : StmtTrees) (parts : r.begins.front ≡ before_all (initializers q (4 + 2 * k)) onward) (start : Assigned) (less : (i : ℕ) → start.own i ≡ true → (assigned_by_initializers q (4 + 2 * k)).own i ≡ true) where
     pub front_knows : KnowsAt (core_of p) y n nothing_first (source.at_end (assigned_flow n) onward (Some start)) (End (front q b r.begins) (Some nothing_first))
     front_knows =
@@ -121,7 +121,7 @@ module _ (p : ProgramTree) (k : ℕ) (c : ClassTree) (at : slice_get p.classes k
         let later = (stmts z onward m).code in
         let lifts = lifted_given z (above q b r.begins) r.begins.given (before q b r.begins).made in
         let lifts_mild : IsMild lifts = where_chosen IsMild (above q b r.begins == 0) [] (given z (above q b r.begins) r.begins.given (before q b r.begins).made).code (λ yes. refl) (λ other. given_is_mild z _ r.begins.given (before q b r.begins).made) in
-        let only : OnlySimple onward = simple_behind inits onward (subst OnlySimple parts r.begins.simple) in
+        let only : OnlySimple onward = simple_after inits onward (subst OnlySimple parts r.begins.simple) in
         let code_parts : (before q b r.begins).code ≡ (stmts z inits []).code ++ later = ap (λ f. (stmts z f []).code) parts ∙ simple_first z inits onward [] (initializers_simple q (4 + 2 * k)) in
         let end = source.at_end (assigned_flow n) onward (Some start) in
         let one = adds (core_of p) y n nothing_first begun nothing_first (copying b) (copies_mild b) entry in

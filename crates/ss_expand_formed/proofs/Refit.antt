@@ -27,7 +27,7 @@ use Rattle.ss_store_rules.specs.NonNull.{is_this_object}
 use Rattle.ss_expand_formed.proofs.Facts.{none_left, not_true}
 use Rattle.ss_expand_formed.proofs.Reading.{locals_pass, args_pass}
 use Rattle.ss_expand_formed.proofs.Uses.{is_other, Fine, AreFine, fine, two_fine, own_or_fine, stays, plain_stays}
-use Rattle.ss_expand_formed.proofs.Fine.{behind_this}
+use Rattle.ss_expand_formed.proofs.Fine.{after_this}
 use Rattle.ss_expand_formed.specs.Fitting.{Frame, implied, enters_with, gives, reads_set, is_own_local, fits, all_fit, base_fits}
 use Rattle.ss_expand_formed.specs.Bodies.{body_frame, method_frame}
 use Rattle.ss_expand_formed.proofs.Fit.{Context, Fit, Fits}
@@ -68,7 +68,7 @@ module _ (c : core.CoreTree) (p : TypedTree) (b : BodyTree) (bs : List BodyTree)
   Owns = (q r : Place) (t f : ℕ) (v : Ty) → may_read u ≡ true → Fit p C x 0 (FieldOf q (ThisOf r t) f v) → own f ≡ true
 
   not_this : (e : ExprTree) → Fine u e → is_this_object (plain free.numbers e) ≡ false
-  not_this e h = no_this u (plain free.numbers e) (plain_stays free.numbers (behind_this b static (temporary_count p b)) u e h)
+  not_this e h = no_this u (plain free.numbers e) (plain_stays free.numbers (after_this b static (temporary_count p b)) u e h)
 
   module _ (owns : Owns) where
     abbrev Where : ExprTree → Type 0

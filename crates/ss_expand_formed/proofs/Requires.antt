@@ -97,7 +97,7 @@ defaults_pass p (d ∷ ds) = defaults_pass p ds
 
 -- ---- written constructors
 
--- the conditions of a constructor read its parameters, which stand behind `this`
+-- the conditions of a constructor read its parameters, which stand after `this`
 abbrev reads_params : BodyTree → Bool
 reads_params b = not b.flags.ctor || not b.flags.is_static && list_all (locals_pass (is_from 1 (1 + length b.params))) b.entry
 

@@ -23,7 +23,7 @@ use Rattle.ss_resolver_rules.specs.declared.known.Known.{Known}
 use Rattle.ss_resolver_rules.specs.declared.known.Known.TheVariants.{Variable, BoundName}
 use Rattle.ss_tables.specs.Named.{named_in, named_among, with_named}
 use Rattle.ss_resolver_rules.specs.Numbers.{type_id, class_in}
-use Rattle.ss_resolver_rules.specs.Expressions.{this, read_field, known_or_field, field_behind, state_word, member, expr, call, args}
+use Rattle.ss_resolver_rules.specs.Expressions.{this, read_field, known_or_field, field_after, state_word, member, expr, call, args}
 use Rattle.ss_resolver_rules.specs.Statements as rules
 use Rattle.ss_resolver_rules.specs.Statements.{declared_by, declared_first, declared_in_block, declared_in, declared_in_all, past, behind, declarators, is_line, printed, print, call_alone, alone, simple, first, behind_first, block, stmt, stmts}
 use Rattle.ss_expand_formed.proofs.OwnReads.{is_asked, called_asked}
@@ -100,14 +100,14 @@ module _ (low : ℕ) where
   name_passes e p x (Some (BoundName k)) h = refl
   name_passes e p x None h = field_passes (is_from low e.next) e p (this e p) (field_of e.scope.classes e.scope.class x)
 
-  behind_passes : (f : ℕ → Bool) (e : Env) (p : Place) (o : ExprTree) (x : List ℕ) (k : Option ℕ) → target_passes f o ≡ true → target_passes f (field_behind e p o x k) ≡ true
-  behind_passes f e p o x None h = h
-  behind_passes f e p o x (Some k) h = field_passes f e p o (field_of e.scope.classes k x)
+  after_passes : (f : ℕ → Bool) (e : Env) (p : Place) (o : ExprTree) (x : List ℕ) (k : Option ℕ) → target_passes f o ≡ true → target_passes f (field_after e p o x k) ≡ true
+  after_passes f e p o x None h = h
+  after_passes f e p o x (Some k) h = field_passes f e p o (field_of e.scope.classes k x)
 
   member_passes : (f : ℕ → Bool) (e : Env) (p : Place) (o : ExprTree) (x : List ℕ) (t : ℕ) → target_passes f o ≡ true → target_passes f (member e p o x t) ≡ true
   member_passes f e p o x t h =
-      on_either (λ (z : ExprTree). target_passes f z ≡ true) (is_state_read x) (StateOf p (state_word x) o) (if is_array_number t then LengthOf p o else field_behind e p o x (declared_place t)) refl
-      (on_either (λ (z : ExprTree). target_passes f z ≡ true) (is_array_number t) (LengthOf p o) (field_behind e p o x (declared_place t)) refl (behind_passes f e p o x (declared_place t) h))
+      on_either (λ (z : ExprTree). target_passes f z ≡ true) (is_state_read x) (StateOf p (state_word x) o) (if is_array_number t then LengthOf p o else field_after e p o x (declared_place t)) refl
+      (on_either (λ (z : ExprTree). target_passes f z ≡ true) (is_array_number t) (LengthOf p o) (field_after e p o x (declared_place t)) refl (after_passes f e p o x (declared_place t) h))
 
   -- an expression that is a local is one in scope
   expr_passes : (e : Env) → is_numbered low e ≡ true → (a : text.ExprTree) → target_passes (is_from low e.next) (expr e a) ≡ true
@@ -147,7 +147,7 @@ module _ (low : ℕ) where
       on_either (λ (z : Known_names). have_numbers low n z ≡ true) (is_some (named_in ls x)) ls (ls ++ (x, k) ∷ []) h
       (list_all-append (λ (l : List ℕ × Known). has_number low n l.1) ls ((x, k) ∷ []) ∙ rw (h, g) refl)
 
-  -- what is known behind one more local
+  -- what is known after one more local
   one_more : (e : Env) → is_numbered low e ≡ true → low ≤ e.next → (x : List ℕ) (t : Ty) → (have_numbers low (e.next + 1) (with_named e.inner x (Variable e.next t)) && list_all (have_numbers low (e.next + 1)) e.outer) ≡ true
   one_more e h l x t =
       let both = and_parts (have_numbers low e.next e.inner) (list_all (have_numbers low e.next) e.outer) h in
@@ -192,19 +192,19 @@ module _ (low : ℕ) where
   stays : (e : Env) → is_numbered low e ≡ true → Numbered e (e.next + 0)
   stays e h = record { names = h; next = omega arith }
 
-  behind_numbered : (e : Env) (x : written.StmtTree) → is_numbered low e ≡ true → low ≤ e.next → Numbered (behind e x) (e.next + length (declared_in x))
-  behind_numbered e (written.DeclareOf d) h l = let r = all_declared e d.ty d.declarators h l in let n = declaration_length d in let m = r.next in record { names = r.names; next = omega arith }
-  behind_numbered e (written.InBlock b) h l = record { names = past_numbered e (declared_in_block b) h; next = refl }
-  behind_numbered e (written.SimpleOf x) h l = stays e h
-  behind_numbered e (written.IfOf p c a) h l = record { names = past_numbered e (declared_in a) h; next = refl }
-  behind_numbered e (written.IfElseOf p c a b) h l = record { names = past_numbered e (declared_in a ++ declared_in b) h; next = refl }
-  behind_numbered e (written.WhileOf p c es a) h l = record { names = past_numbered e (declared_in a) h; next = refl }
-  behind_numbered e (written.ForOf p i c x es a) h l = record { names = past_numbered e (declared_first i ++ declared_in a) h; next = refl }
-  behind_numbered e (written.ReturnOf p c) h l = stays e h
-  behind_numbered e (written.AssertOf p c) h l = stays e h
-  behind_numbered e (written.AssumeOf p c) h l = stays e h
-  behind_numbered e (written.ExposeOf p c n b) h l = record { names = past_numbered e (declared_in_block b) h; next = refl }
-  behind_numbered e (written.EmptyOf p) h l = stays e h
+  after_numbered : (e : Env) (x : written.StmtTree) → is_numbered low e ≡ true → low ≤ e.next → Numbered (behind e x) (e.next + length (declared_in x))
+  after_numbered e (written.DeclareOf d) h l = let r = all_declared e d.ty d.declarators h l in let n = declaration_length d in let m = r.next in record { names = r.names; next = omega arith }
+  after_numbered e (written.InBlock b) h l = record { names = past_numbered e (declared_in_block b) h; next = refl }
+  after_numbered e (written.SimpleOf x) h l = stays e h
+  after_numbered e (written.IfOf p c a) h l = record { names = past_numbered e (declared_in a) h; next = refl }
+  after_numbered e (written.IfElseOf p c a b) h l = record { names = past_numbered e (declared_in a ++ declared_in b) h; next = refl }
+  after_numbered e (written.WhileOf p c es a) h l = record { names = past_numbered e (declared_in a) h; next = refl }
+  after_numbered e (written.ForOf p i c x es a) h l = record { names = past_numbered e (declared_first i ++ declared_in a) h; next = refl }
+  after_numbered e (written.ReturnOf p c) h l = stays e h
+  after_numbered e (written.AssertOf p c) h l = stays e h
+  after_numbered e (written.AssumeOf p c) h l = stays e h
+  after_numbered e (written.ExposeOf p c n b) h l = record { names = past_numbered e (declared_in_block b) h; next = refl }
+  after_numbered e (written.EmptyOf p) h l = stays e h
 
   -- ---- statements
 
@@ -265,6 +265,6 @@ module _ (low : ℕ) where
       stmts_in e h m written.NoMore l = refl
       stmts_in e h m (written.Before x xs) l =
           let n = length-append (declared_in x) (declared_in_all xs) in
-          let r = behind_numbered e x h (omega arith) in
+          let r = after_numbered e x h (omega arith) in
           let k = r.next in
           and_from _ _ (stmt_in e h m x (omega arith)) (stmts_in (behind e x) r.names (omega arith) xs (omega arith))

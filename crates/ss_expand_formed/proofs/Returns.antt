@@ -63,7 +63,7 @@ use Rattle.ss_expand_formed.proofs.Mild.{Fields, fields_flow, fields_check, comp
 use Rattle.ss_expand_formed.proofs.MildCode.{IsMild, simple_is_mild, given_is_mild}
 use Rattle.ss_expand_formed.proofs.Simulation.{Knows, KnowsAt, stmts_go}
 use Rattle.ss_expand_formed.proofs.Starts.{fields_from as has_fields, no_unassigned, own_complete, is_known}
-use Rattle.ss_expand_formed.proofs.Ready.{nothing_first, copies_mild, simple_behind, front_knows}
+use Rattle.ss_expand_formed.proofs.Ready.{nothing_first, copies_mild, simple_after, front_knows}
 
 -- ---- the source
 
@@ -84,16 +84,16 @@ module _ (f : source.Flow Assigned) (c : source.Check Assigned) where
   in_block_faults : (b : BlockTree) (a : Option Assigned) → source.faults_in f c b a ≡ source.faults_along f c (in_block b) a
   in_block_faults (BlockOf q ss end) a = refl
 
-  in_block_end : (b : BlockTree) (a : Assigned) → source.behind_block f b a ≡ source.at_end f (in_block b) (Some a)
+  in_block_end : (b : BlockTree) (a : Assigned) → source.after_block f b a ≡ source.at_end f (in_block b) (Some a)
   in_block_end (BlockOf q ss end) a = refl
 
--- behind simple statements something is known
+-- after simple statements something is known
 simple_state : (n : Numbers) (ss : StmtTrees) (a : Assigned) → OnlySimple ss → (d : Assigned) × (source.at_end (assigned_flow n) ss (Some a) ≡ Some d)
 simple_state n NoMore a h = (a, refl)
 simple_state n (Before (SimpleOf x) ss) a h = simple_state n ss (assigned_by n x a) h.1
 simple_state n (Before x ss) a h = absurd h
 
--- what the phase of construction says of the statements behind `base(..)`
+-- what the phase of construction says of the statements after `base(..)`
 record Rests (q : TypedTree) (b : BodyTree) (n : Numbers) (r : Builds q b) (mine : StmtTrees) : Type 0 where
   before : Assigned
   is : source.at_end (assigned_flow n) mine (Some (assigned_first q b)) ≡ Some before
@@ -113,7 +113,7 @@ module _ (q : TypedTree) (b : BodyTree) (r : Builds q b) (none : end_faults q b 
 
   whole_none : source.faults_along flow check (before_all (in_block b.block) last) (Some (assigned_first q b)) ≡ []
   whole_none =
-      let both = none_left (source.faults_in flow check b.block (Some (assigned_first q b))) (unassigned_faults q b.class (closing_brace b.block) (source.behind_block flow b.block (assigned_first q b))) none in
+      let both = none_left (source.faults_in flow check b.block (Some (assigned_first q b))) (unassigned_faults q b.class (closing_brace b.block) (source.after_block flow b.block (assigned_first q b))) none in
       let one : source.faults_along flow check (in_block b.block) (Some (assigned_first q b)) ≡ [] = sym (in_block_faults flow check b.block (Some (assigned_first q b))) ∙ both.0 in
       let two : unassigned_faults q b.class (closing_brace b.block) (source.at_end flow (in_block b.block) (Some (assigned_first q b))) ≡ [] = ap (unassigned_faults q b.class (closing_brace b.block)) (sym (in_block_end flow check b.block (assigned_first q b))) ∙ both.1 in
       faults_before flow check (in_block b.block) last (Some (assigned_first q b)) ∙ rw (one, two) refl
@@ -224,7 +224,7 @@ simples_mild z NoMore made h = refl
 simples_mild z (Before (SimpleOf x) ss) made h = let one = simple z x made in each-append is_mild one.code (stmts z ss one.made).code (simple_is_mild z x made) (simples_mild z ss one.made h.1)
 simples_mild z (Before x ss) made h = absurd h
 
--- behind `base(..)` the fields above have their values
+-- after `base(..)` the fields above have their values
 base_gives : (c : core.CoreTree) (y : core.BodyTree) (n : Numbers) (base ready : Bool) (q : Place) (m : ℕ) (vs : List core.ExprTree) (a d : Assigned) → (base ≡ false → chain.above c.classes y.class ≡ 0) → ((i : ℕ) → d.own i ≡ true → a.own i ≡ true) → (l : Option Fields) → KnowsAt c y n nothing_first (Some a) l →
     KnowsAt c y n (above_first c y) (Some d) (at_end (fields_flow c y) (code_of (base_where base q m vs ++ ready_where ready q)) l)
 base_gives c y n base ready q m vs a d top less None h = subst (KnowsAt c y n (above_first c y) (Some d)) (sym (at_none (fields_flow c y) (code_of (base_where base q m vs ++ ready_where ready q)))) tt
@@ -306,7 +306,7 @@ module _ (p : ProgramTree) (faultless : program_faults p ≡ []) (k : ℕ) (c : 
   pub returns_complete : returns_with_fields (core_of p) y ≡ true
   returns_complete =
       let mine = r.begins.as_late late in
-      let only : OnlySimple mine.0 = simple_behind (initializers q b.class) mine.0 (subst OnlySimple mine.1 r.begins.simple) in
+      let only : OnlySimple mine.0 = simple_after (initializers q b.class) mine.0 (subst OnlySimple mine.1 r.begins.simple) in
       let source_rest = rests q b r none mine.0 only mine.2 in
       let parts : r.begins.front ≡ before_all (initializers q (4 + 2 * k)) mine.0 = mine.1 ∙ ap (λ t. before_all (initializers q t) mine.0) is in
       let start : Assigned = assigned_first q b in

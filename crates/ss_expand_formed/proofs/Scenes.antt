@@ -26,29 +26,29 @@ use Rattle.ss_expand_formed.proofs.Names.{Stands, Alike, Meets, meets_in}
 use Rattle.ss_expand_formed.proofs.Classes.{type_there}
 use Rattle.ss_expand_formed.proofs.ExpressionsPlaces.{At, IsPlace}
 
--- ---- names behind parameters
+-- ---- names after parameters
 
 -- in the scope
-abbrev pub names_behind : List ClassTree → Locals → List ParamTree → Locals
-names_behind cs ls [] = ls
-names_behind cs ls (p ∷ ps) = names_behind cs (with_named ls p.name.text (record { ty = written_type cs p.ty; is_param = true })) ps
+abbrev pub names_after : List ClassTree → Locals → List ParamTree → Locals
+names_after cs ls [] = ls
+names_after cs ls (p ∷ ps) = names_after cs (with_named ls p.name.text (record { ty = written_type cs p.ty; is_param = true })) ps
 
 -- and with numbers, from n on
-abbrev pub numbers_behind : List ClassTree → Known_names → ℕ → List ParamTree → Known_names
-numbers_behind cs ks n [] = ks
-numbers_behind cs ks n (p ∷ ps) = numbers_behind cs (with_named ks p.name.text (Variable n (type_id cs p.ty))) (n + 1) ps
+abbrev pub numbers_after : List ClassTree → Known_names → ℕ → List ParamTree → Known_names
+numbers_after cs ks n [] = ks
+numbers_after cs ks n (p ∷ ps) = numbers_after cs (with_named ks p.name.text (Variable n (type_id cs p.ty))) (n + 1) ps
 
 abbrev pub next_behind : ℕ → List ParamTree → ℕ
 next_behind n [] = n
 next_behind n (p ∷ ps) = next_behind (n + 1) ps
 
-pub scope_behind : (s : Scope) (ps : List ParamTree) → scopes.declare_params s ps ≡ record s { inner = names_behind s.classes s.inner ps }
-scope_behind s [] = refl
-scope_behind s (p ∷ ps) = scope_behind (scopes.declare s p.name.text (record { ty = written_type s.classes p.ty; is_param = true })) ps
+pub scope_after : (s : Scope) (ps : List ParamTree) → scopes.declare_params s ps ≡ record s { inner = names_after s.classes s.inner ps }
+scope_after s [] = refl
+scope_after s (p ∷ ps) = scope_after (scopes.declare s p.name.text (record { ty = written_type s.classes p.ty; is_param = true })) ps
 
-pub env_behind : (e : Env) (ps : List ParamTree) → declare_params e ps ≡ record e { scope = record (e.scope) { inner = names_behind e.scope.classes e.scope.inner ps }; inner = numbers_behind e.scope.classes e.inner e.next ps; next = next_behind e.next ps }
-env_behind e [] = refl
-env_behind e (p ∷ ps) = env_behind (declare_param e p) ps
+pub env_after : (e : Env) (ps : List ParamTree) → declare_params e ps ≡ record e { scope = record (e.scope) { inner = names_after e.scope.classes e.scope.inner ps }; inner = numbers_after e.scope.classes e.inner e.next ps; next = next_behind e.next ps }
+env_after e [] = refl
+env_after e (p ∷ ps) = env_after (declare_param e p) ps
 
 -- ---- the place of a contract
 
@@ -59,9 +59,9 @@ abbrev pub place_of : List ClassTree → ℕ → Bool → Option Ty → List Par
 place_of cs k static outcome ps = record {
   class = k;
   outcome = outcome;
-  names = names_behind cs [] ps;
+  names = names_after cs [] ps;
   more_names = [];
-  numbers = numbers_behind cs [] (first_number static) ps;
+  numbers = numbers_after cs [] (first_number static) ps;
   more_numbers = [];
   next = next_behind (first_number static) ps;
   bound = 0;
@@ -87,13 +87,13 @@ more_alike types ls ks x l k h g = by (named_in ls x) (named_in ks x) (meets_in 
     by (Some o) (Some q) m = h
 
 -- the names mean the same locals
-pub behind_alike : (cs : List ClassTree) (types : List Ty) (n : ℕ) (ls : Locals) (ks : Known_names) (ps : List ParamTree) → Alike types 0 ls ks → AreThere cs ps → ((i : ℕ) (q : ParamTree) → slice_get ps i ≡ Some q → slice_get types (n + i) ≡ Some (type_id cs q.ty)) →
-    Alike types 0 (names_behind cs ls ps) (numbers_behind cs ks n ps)
-behind_alike cs types n ls ks [] h there at = h
-behind_alike cs types n ls ks (p ∷ ps) h there at =
+pub after_alike : (cs : List ClassTree) (types : List Ty) (n : ℕ) (ls : Locals) (ks : Known_names) (ps : List ParamTree) → Alike types 0 ls ks → AreThere cs ps → ((i : ℕ) (q : ParamTree) → slice_get ps i ≡ Some q → slice_get types (n + i) ≡ Some (type_id cs q.ty)) →
+    Alike types 0 (names_after cs ls ps) (numbers_after cs ks n ps)
+after_alike cs types n ls ks [] h there at = h
+after_alike cs types n ls ks (p ∷ ps) h there at =
     let zero_more : n + 0 ≡ n = omega arith in
     let here : slice_get types n ≡ Some (type_id cs p.ty) = ap (slice_get types) (sym zero_more) ∙ at 0 p refl in
-    behind_alike cs types (n + 1) (with_named ls p.name.text (record { ty = written_type cs p.ty; is_param = true })) (with_named ks p.name.text (Variable n (type_id cs p.ty))) ps
+    after_alike cs types (n + 1) (with_named ls p.name.text (record { ty = written_type cs p.ty; is_param = true })) (with_named ks p.name.text (Variable n (type_id cs p.ty))) ps
     (more_alike types ls ks p.name.text (record { ty = written_type cs p.ty; is_param = true }) (Variable n (type_id cs p.ty)) h (there 0 p refl, here))
     (λ i q e. there (suc i) q e)
     (λ i q e. let s : n + 1 + i ≡ n + suc i = omega arith in ap (slice_get types) s ∙ at (suc i) q e)
@@ -146,6 +146,6 @@ module _ (p : ProgramTree) (faultless : program_faults p ≡ []) where
     in_class = refl;
     outcome = λ t h. h;
     answer_is = answered;
-    inner = behind_alike p.classes (context_of k static outcome ps).locals (first_number static) [] [] ps tt there (λ i q e. param_there static k ps i q e);
+    inner = after_alike p.classes (context_of k static outcome ps).locals (first_number static) [] [] ps tt there (λ i q e. param_there static k ps i q e);
     outer = tt;
   }

@@ -22,7 +22,7 @@ use Rattle.ss_resolver_rules.specs.declared.known.Known.{Known}
 use Rattle.ss_resolver_rules.specs.declared.known.Known.TheVariants.{Variable, BoundName}
 use Rattle.ss_tables.specs.Named.{named_in, named_among, with_named}
 use Rattle.ss_resolver_rules.specs.Numbers.{type_id, class_in, method_id, table_place}
-use Rattle.ss_resolver_rules.specs.Expressions.{this, read_field, known_or_field, field_behind, state_word, third_class, member, method_call, base_call, owner_question, call_of, question, called_behind, called_bare, expr, call, args}
+use Rattle.ss_resolver_rules.specs.Expressions.{this, read_field, known_or_field, field_after, state_word, third_class, member, method_call, base_call, owner_question, call_of, question, called_after, called_bare, expr, call, args}
 use Rattle.ss_resolver_rules.specs.Statements as rules
 use Rattle.ss_resolver_rules.specs.Statements.{declared_first, declared_in_block, declared_in, past, behind, declarators, is_line, printed, print, call_alone, alone, simple, first, behind_first, block, stmt, stmts}
 use Rattle.ss_expand_formed.proofs.Choosing.{on_either}
@@ -36,14 +36,14 @@ module _ (m : May) where
   field_reads e p o h None = refl
   field_reads e p o h (Some f) = h
 
-  behind_reads : (e : Env) (p : Place) (o : ExprTree) (n : List ℕ) → reads m o ≡ true → (k : Option ℕ) → reads m (field_behind e p o n k) ≡ true
-  behind_reads e p o n h None = h
-  behind_reads e p o n h (Some k) = field_reads e p o h (field_of e.scope.classes k n)
+  after_reads : (e : Env) (p : Place) (o : ExprTree) (n : List ℕ) → reads m o ≡ true → (k : Option ℕ) → reads m (field_after e p o n k) ≡ true
+  after_reads e p o n h None = h
+  after_reads e p o n h (Some k) = field_reads e p o h (field_of e.scope.classes k n)
 
   pub member_reads : (e : Env) (p : Place) (o : ExprTree) (n : List ℕ) (t : ℕ) → reads m o ≡ true → reads m (member e p o n t) ≡ true
   member_reads e p o n t h =
-      on_either (λ (z : ExprTree). reads m z ≡ true) (is_state_read n) (StateOf p (state_word n) o) (if is_array_number t then LengthOf p o else field_behind e p o n (declared_place t)) h
-      (on_either (λ (z : ExprTree). reads m z ≡ true) (is_array_number t) (LengthOf p o) (field_behind e p o n (declared_place t)) h (behind_reads e p o n h (declared_place t)))
+      on_either (λ (z : ExprTree). reads m z ≡ true) (is_state_read n) (StateOf p (state_word n) o) (if is_array_number t then LengthOf p o else field_after e p o n (declared_place t)) h
+      (on_either (λ (z : ExprTree). reads m z ≡ true) (is_array_number t) (LengthOf p o) (field_after e p o n (declared_place t)) h (after_reads e p o n h (declared_place t)))
 
   pub method_reads : (e : Env) (p : Place) (k : ℕ) (o : ExprTree) (given : typed.Arguments) (d : Declared MethodTree) → (is_static d.member ≡ false → reads m o ≡ true) → read_all m given ≡ true → reads m (method_call e p k o given d) ≡ true
   method_reads e p k o given d h g = by (is_static d.member) h
@@ -79,7 +79,7 @@ module _ (m : May) where
   question_reads e p (AValue t) o n es given h g = h
   question_reads e p TheConsole o n es given h g = refl
 
-  pub called_reads : (e : Env) (p : Place) (r : Receiver) (o : ExprTree) (n : List ℕ) (es : Arguments) (given : typed.Arguments) (c : Callee) → reads m o ≡ true → read_all m given ≡ true → reads m (called_behind e p r o n es given c) ≡ true
+  pub called_reads : (e : Env) (p : Place) (r : Receiver) (o : ExprTree) (n : List ℕ) (es : Arguments) (given : typed.Arguments) (c : Callee) → reads m o ≡ true → read_all m given ≡ true → reads m (called_after e p r o n es given c) ≡ true
   called_reads e p r o n es given (AMethod d) h g = call_of_reads e p r o given d h g
   called_reads e p r o n es given (AWord k) h g = question_reads e p r o n es given h g
   called_reads e p r o n es given (APrint is_line) h g = refl
@@ -133,7 +133,7 @@ module _ (m : May) (next : ℕ) (t : Ty) (outer : Option Known) where
       (either_has (named_in ls n) (if bytes_eq n x then Some (Variable next t) else None) h (new_has (bytes_eq n x))))
 
 module _ (low : ℕ) where
-  -- `this`, `result` and every variable in scope may be read, and more locals are behind the arguments
+  -- `this`, `result` and every variable in scope may be read, and more locals are after the arguments
   pub record Scoped (m : May) (e : Env) : Type 0 where
     pub this : m.this ≡ true
     pub result : m.result ≡ true
@@ -261,19 +261,19 @@ module _ (low : ℕ) where
 
   -- ---- statements
 
-  behind_scoped : (m : May) (e : Env) → Scoped m e → (x : written.StmtTree) → Scoped (reading.behind m (stmt e x)) (behind e x)
-  behind_scoped m e h (written.DeclareOf d) = (declarators_scoped m e h d.ty d.declarators).1
-  behind_scoped m e h (written.InBlock b) = past_scoped m e (declared_in_block b) h
-  behind_scoped m e h (written.SimpleOf x) = h
-  behind_scoped m e h (written.IfOf p c a) = past_scoped m e (declared_in a) h
-  behind_scoped m e h (written.IfElseOf p c a b) = past_scoped m e (declared_in a ++ declared_in b) h
-  behind_scoped m e h (written.WhileOf p c es a) = past_scoped m e (declared_in a) h
-  behind_scoped m e h (written.ForOf p i c x es a) = past_scoped m e (declared_first i ++ declared_in a) h
-  behind_scoped m e h (written.ReturnOf p c) = h
-  behind_scoped m e h (written.AssertOf p c) = h
-  behind_scoped m e h (written.AssumeOf p c) = h
-  behind_scoped m e h (written.ExposeOf p c n b) = past_scoped m e (declared_in_block b) h
-  behind_scoped m e h (written.EmptyOf p) = h
+  after_scoped : (m : May) (e : Env) → Scoped m e → (x : written.StmtTree) → Scoped (reading.behind m (stmt e x)) (behind e x)
+  after_scoped m e h (written.DeclareOf d) = (declarators_scoped m e h d.ty d.declarators).1
+  after_scoped m e h (written.InBlock b) = past_scoped m e (declared_in_block b) h
+  after_scoped m e h (written.SimpleOf x) = h
+  after_scoped m e h (written.IfOf p c a) = past_scoped m e (declared_in a) h
+  after_scoped m e h (written.IfElseOf p c a b) = past_scoped m e (declared_in a ++ declared_in b) h
+  after_scoped m e h (written.WhileOf p c es a) = past_scoped m e (declared_in a) h
+  after_scoped m e h (written.ForOf p i c x es a) = past_scoped m e (declared_first i ++ declared_in a) h
+  after_scoped m e h (written.ReturnOf p c) = h
+  after_scoped m e h (written.AssertOf p c) = h
+  after_scoped m e h (written.AssumeOf p c) = h
+  after_scoped m e h (written.ExposeOf p c n b) = past_scoped m e (declared_in_block b) h
+  after_scoped m e h (written.EmptyOf p) = h
 
   mutual
     stmt_scoped : (m : May) (e : Env) → Scoped m e → (x : written.StmtTree) → stmt_reads own m (stmt e x) ≡ true
@@ -302,4 +302,4 @@ module _ (low : ℕ) where
 
     stmts_scoped : (m : May) (e : Env) → Scoped m e → (ss : written.StmtTrees) → all_read own m (stmts e ss) ≡ true
     stmts_scoped m e h written.NoMore = refl
-    stmts_scoped m e h (written.Before x xs) = and_from _ _ (stmt_scoped m e h x) (stmts_scoped (reading.behind m (stmt e x)) (behind e x) (behind_scoped m e h x) xs)
+    stmts_scoped m e h (written.Before x xs) = and_from _ _ (stmt_scoped m e h x) (stmts_scoped (reading.behind m (stmt e x)) (behind e x) (after_scoped m e h x) xs)

@@ -1,4 +1,4 @@
--- Statements one behind the other, where the phase of null may know less at a seam than what stands before it gives.
+-- Statements one after the other, where the phase of null may know less at a seam than what stands before it gives.
 use Rattle.std.proofs.Common.{◌≡◌, ℕ, List, [], ◌++◌, true, Some, refl, ◌∙◌, ap}
 use Rattle.std.proofs.lemmas.Bool.{and_parts, and_from}
 use Rattle.ss_core.specs.declared.names.Ty.{Ty}
@@ -81,18 +81,18 @@ module _ (z : Frame) (agrees : Agrees z) (builds : Builds z) where
   pub all_hold : (k : source.Known) (ss : StmtTrees) → all_fitting z ss ≡ true → phase.faults_along along asked ss (Some k) ≡ [] → HoldFrom z k ss
   all_hold k ss fit clean made l c has = (stmts_known z agrees builds ss fit [] k made clean l c has).held
 
-  -- behind code that runs to its end
+  -- after code that runs to its end
   pub then_hold : (l : Known) (k : source.Known) (xs ys : Code) → (h : Done z agrees l k xs) → Holds z h.now ys → Holds z l (xs ++ ys)
   then_hold l k xs ys h g = holds-append (flow z) (check z) xs ys (Some l) h.runs.checked (ap (holds_along (flow z) (check z) (code_of ys)) h.runs.at ∙ g)
 
-  pub behind_simple : (k m : source.Known) (x : SimpleTree) (more : StmtTrees) → simple_fits z x ≡ true → done_faults z.context x (Some k) ≡ [] → Less z m (source.known_done z.context x k) → HoldFrom z m more → HoldFrom z k (Before (SimpleOf x) more)
-  behind_simple k m x more fit clean less rest made l c has =
+  pub after_simple : (k m : source.Known) (x : SimpleTree) (more : StmtTrees) → simple_fits z x ≡ true → done_faults z.context x (Some k) ≡ [] → Less z m (source.known_done z.context x k) → HoldFrom z m more → HoldFrom z k (Before (SimpleOf x) more)
+  after_simple k m x more fit clean less rest made l c has =
       let s = elaboration_context z [] in
       let one = simple s x made in
       let first = simple_known z agrees builds [] x k l made c fit clean (made_before z agrees one.made (stmts s more one.made).made (stmts_begin s more one.made) has) in
       then_hold l (source.known_done z.context x k) one.code (stmts s more one.made).code first (rest one.made first.now (covers_less z m (source.known_done z.context x k) first.now less first.covers) has)
 
-  -- Simple statements, of which the phase has these others behind them.
+  -- Simple statements, of which the phase has these others after them.
   pub behind_all : (front seen more : StmtTrees) (k : source.Known) → OnlySimple front → all_fitting z front ≡ true → phase.faults_along along asked (before_all front seen) (Some k) ≡ [] →
       ((m : source.Known) → phase.faults_along along asked seen (Some m) ≡ [] → HoldFrom z m more) → HoldFrom z k (before_all front more)
   behind_all NoMore seen more k only fit clean rest = rest k clean
@@ -100,5 +100,5 @@ module _ (z : Frame) (agrees : Agrees z) (builds : Builds z) where
       let both = and_parts (simple_fits z x) (all_fitting z front) fit in
       let m = source.known_done z.context x k in
       let parts = none_left (done_faults z.context x (Some k)) (phase.faults_along along asked (before_all front seen) (Some m)) clean in
-      behind_simple k m x (before_all front more) both.0 parts.0 (itself z m) (behind_all front seen more m only.1 both.1 parts.1 rest)
+      after_simple k m x (before_all front more) both.0 parts.0 (itself z m) (behind_all front seen more m only.1 both.1 parts.1 rest)
   behind_all (Before x front) seen more k only fit clean rest = absurd only

@@ -6,7 +6,7 @@ use Rattle.std.proofs.lemmas.Option.{same_Some, slice_get_within}
 use Rattle.std.proofs.lemmas.Bool.{cases_Bool, or_left, or_right, false≢true, lt-ltb}
 use Rattle.std.proofs.lemmas.List.Folds.{find_at}
 
--- ---- lists behind one another
+-- ---- lists after one another
 
 pub at_front : {X : Type 0} (xs ys : List X) (n : ℕ) → n < length xs → slice_get (xs ++ ys) n ≡ slice_get xs n
 at_front [] ys n l = absurd (omega arith)

@@ -37,7 +37,7 @@ abbrev pub closing : Opened → Bool → Code
 closing o false = []
 closing o true = pack_of o ∷ []
 
--- Code of a body of the class t within some exposes, before which so many temporaries are made and behind which so many. The locals that the
+-- Code of a body of the class t within some exposes, before which so many temporaries are made and after which so many. The locals that the
 -- body declares and its copies stand from `low` on, and the temporaries from `first` on.
 pub data Shape (t low first : ℕ) : List Opened → ℕ → Code → ℕ → Type 0 where
   Nothing : {os : List Opened} {n : ℕ} → Shape t low first os n [] n
@@ -46,13 +46,13 @@ pub data Shape (t low first : ℕ) : List Opened → ℕ → Code → ℕ → Ty
   Step : {os : List Opened} {n : ℕ} (x : core.StmtTree) → is_step x ≡ true → targets_only (is_from low first) x ≡ true → Shape t low first os n (x ∷ []) n
   -- it assigns a new temporary
   Temporary : {os : List Opened} {n m : ℕ} (x : core.StmtTree) → is_step x ≡ true → targets_only (λ y. first + n == y) x ≡ true → m ≡ suc n → Shape t low first os n (x ∷ []) m
-  -- a new temporary is assigned, and once more behind the code in an `if`
+  -- a new temporary is assigned, and once more after the code in an `if`
   Lazily : {os : List Opened} {n m : ℕ} {xs : Code} (p : Place) (e : ExprTree) (x y : core.StmtTree) → is_step x ≡ true → is_step y ≡ true → targets_only (λ z. first + n == z) x ≡ true → targets_only (λ z. first + n == z) y ≡ true →
       Shape t low first os (suc n) xs m → Shape t low first os n (x ∷ IfStmt p e (code_of (xs ++ y ∷ [])) NoCode ∷ []) m
   Branch : {os : List Opened} {n m k : ℕ} {xs ys : Code} (p : Place) (e : ExprTree) → Shape t low first os n xs m → Shape t low first os m ys k → Shape t low first os n (IfStmt p e (code_of xs) (code_of ys) ∷ []) k
   Loop : {os : List Opened} {n m k : ℕ} {xs ys : Code} (p : Place) (is : List ExprTree) (e : ExprTree) → Shape t low first os n xs m → Shape t low first os m ys k →
       Shape t low first os n (LoopStmt p is (code_of xs) e (code_of ys) (map exposed os) ∷ []) k
-  -- a return behind the packs of the exposes and of `this`
+  -- a return after the packs of the exposes and of `this`
   Leave : {os : List Opened} {n : ℕ} (p : Place) (e : Option ExprTree) (xs : Code) → is_this_pack t xs ≡ true → Shape t low first os n ((map pack_of (reverse os) ++ xs) ++ ReturnStmt p e ∷ []) n
   -- an object in a new temporary is exposed
   Expose : {os : List Opened} {n m : ℕ} {xs : Code} (x : core.StmtTree) (o : Opened) (ends : Bool) → is_step x ≡ true → targets_only (λ y. first + n == y) x ≡ true → o.local ≡ first + n →

@@ -23,7 +23,7 @@ use Rattle.ss_expand_rules.specs.Program.{field_at, above_of, Constructor, numbe
 use Rattle.ss_typed.specs.Lookups.{constructor_of, param_types_in}
 use Rattle.ss_expand_rules.specs.Code.{Coded, nothing, then_code}
 use Rattle.ss_expand_rules.specs.Lifting.{Opened, ElaborationContext, Source, Pure, Created, CreatedArray, Called, put, Lifted, Valued, Listed, unlifted, next, temporary_type, any_object, in_temporary, valued_from, valued, lifted_of, operand, unary, binary, lazily, holds, fails, negated, operation, implication, first_type, other_types, no_operands, operands_of, and_operands, static_class, types_of_constructor, types_of_written, types_of_method, lifted, in_temporaries, right_side, value, arguments_of}
-use Rattle.ss_expand_rules.specs.Simple.{default_of, into_local, write_of, write, write_value, assign_settled, Settled, settle_lifted, settle_part, settle, assign_behind, assign, update, assignment, step_operator, declared_as, declare, drop_result, print, has_delayed_constructor, ready_behind, base_with, base_of, simple}
+use Rattle.ss_expand_rules.specs.Simple.{default_of, into_local, write_of, write, write_value, assign_settled, Settled, settle_lifted, settle_part, settle, assign_after, assign, update, assignment, step_operator, declared_as, declare, drop_result, print, has_delayed_constructor, ready_after, base_with, base_of, simple}
 use Rattle.ss_expand_rules.specs.Ends.{can_end, block_can_end}
 use Rattle.ss_expand_rules.specs.Statements.{loop_while, begin, advance, pack_this, packs, leave_with, result_type, kept_result, leave_value, leave, exposed_class, within, close, opened, expose_lifted, stmt, block, stmts}
 use Rattle.ss_store_rules.specs.Locals.{targets_only}
@@ -216,19 +216,19 @@ module _ (low : ℕ) where
   settled_passes s f (ElementOf p a i) made h = refl
   settled_passes s f target made h = h
 
-  assign_behind_goes : (s : ElaborationContext) (e : ExprTree) (made : List Ty) (t : Settled) → target_passes (means_own s) t.target ≡ true → Goes s made t.code t.made → Goes s made (assign_behind s e t).code (assign_behind s e t).made
-  assign_behind_goes s e made t own h = Join h (assign_settled_goes s t.target e own t.made)
+  assign_after_goes : (s : ElaborationContext) (e : ExprTree) (made : List Ty) (t : Settled) → target_passes (means_own s) t.target ≡ true → Goes s made t.code t.made → Goes s made (assign_after s e t).code (assign_after s e t).made
+  assign_after_goes s e made t own h = Join h (assign_settled_goes s t.target e own t.made)
 
   assign_goes : (s : ElaborationContext) (target e : ExprTree) → target_passes (means_own s) target ≡ true → Codes s (assign s target e)
   assign_goes s target e own made =
-      on_either (λ (c : Coded). Goes s made c.code c.made) (has_call target || has_call e) (assign_behind s e (settle s target made)) (assign_settled s target e made)
-      (assign_behind_goes s e made (settle s target made) (settled_passes s (means_own s) target made own) (settle_goes s target made))
+      on_either (λ (c : Coded). Goes s made c.code c.made) (has_call target || has_call e) (assign_after s e (settle s target made)) (assign_settled s target e made)
+      (assign_after_goes s e made (settle s target made) (settled_passes s (means_own s) target made own) (settle_goes s target made))
       (assign_settled_goes s target e own made)
 
   update_goes : (s : ElaborationContext) (o : Operator) (target e : ExprTree) → target_passes (means_own s) target ≡ true → Codes s (update s o target e)
   update_goes s o target e own made =
       let t = settle s target made in
-      assign_behind_goes s (BinaryOf (place_of t.target) o t.target e) made t (settled_passes s (means_own s) target made own) (settle_goes s target made)
+      assign_after_goes s (BinaryOf (place_of t.target) o t.target e) made t (settled_passes s (means_own s) target made own) (settle_goes s target made)
 
   assignment_goes : (s : ElaborationContext) (target : ExprTree) (o : AssignOperator) (e : ExprTree) → target_passes (means_own s) target ≡ true → Codes s (assignment s target o e)
   assignment_goes s target operator.Set e own made = assign_goes s target e own made
@@ -260,7 +260,7 @@ module _ (low : ℕ) where
   print_goes s p None line made = Step (PrintStmt p None line) refl refl
   print_goes s p (Some e) line made = Join (value_goes s e made) (Step (PrintStmt p (Some (value s e made).value) line) refl refl)
 
-  ready_goes : (s : ElaborationContext) (p : Place) (t : ℕ) (made : List Ty) → Goes s made (ready_behind s p t) made
+  ready_goes : (s : ElaborationContext) (p : Place) (t : ℕ) (made : List Ty) → Goes s made (ready_after s p t) made
   ready_goes s p t made =
       on_either (λ (c : Code). Goes s made c made) s.body.flags.delayed [] (if has_delayed_constructor s.program t then ReadyStmt p ∷ [] else []) Nothing
       (on_either (λ (c : Code). Goes s made c made) (has_delayed_constructor s.program t) (ReadyStmt p ∷ []) [] (Step (ReadyStmt p) refl refl) Nothing)
@@ -270,7 +270,7 @@ module _ (low : ℕ) where
       let ts = param_types_in (constructor_of s.program t) in
       let l = arguments_of s ts es made in
       let call = CallStmt p None (BaseConstructor (number_of s.program (Constructor t))) l.values in
-      on_either (λ (c : Coded). Goes s made c.code c.made) (t == 0) (record { code = ready_behind s p t; made = made }) (base_with s p t l)
+      on_either (λ (c : Coded). Goes s made c.code c.made) (t == 0) (record { code = ready_after s p t; made = made }) (base_with s p t l)
       (ready_goes s p t made)
       (Join (operands_go s es (in_temporaries s ts es) (in_temporaries_go s ts es) made) (Join (Step call refl refl) (ready_goes s p t l.made)))
 

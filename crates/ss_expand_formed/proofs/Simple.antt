@@ -22,7 +22,7 @@ use Rattle.ss_expand_rules.specs.Program.{field_at, above_of, Constructor, numbe
 use Rattle.ss_typed.specs.Lookups.{constructor_of, param_types_in}
 use Rattle.ss_expand_rules.specs.Lifting.{ElaborationContext, Source, Pure, Created, CreatedArray, Called, put, Lifted, next, temporary_type, any_object, right_side, value, arguments_of}
 use Rattle.ss_expand_rules.specs.Code.{Coded}
-use Rattle.ss_expand_rules.specs.Simple.{into_local, write_of, write, assign_settled, Settled, settle_lifted, settle_part, settle, assign_behind, assign, update, assignment, step_operator, default_of, declared_as, declare, drop_result, alone, print, has_delayed_constructor, ready_behind, base_with, base_of, simple}
+use Rattle.ss_expand_rules.specs.Simple.{into_local, write_of, write, assign_settled, Settled, settle_lifted, settle_part, settle, assign_after, assign, update, assignment, step_operator, default_of, declared_as, declare, drop_result, alone, print, has_delayed_constructor, ready_after, base_with, base_of, simple}
 use Rattle.ss_store_rules.specs.Admissible as store
 use Rattle.ss_expand_formed.proofs.Shape.{Code, each-append}
 use Rattle.ss_expand_formed.proofs.Choices.{where_chosen}
@@ -144,19 +144,19 @@ module _ (F : ExprTree → Type 0) (A : Arguments → Type 0) (P : core.ExprTree
 
   -- ---- assignments
 
-  behind_runs : (e : ExprTree) (t : Settled) → Passing t.code → Left F t.target → F e → Passing (assign_behind s e t).code
-  behind_runs e t h g fine = each-append test t.code (assign_settled s t.target e t.made).code h (settled_runs t.target e t.made g fine)
+  after_runs : (e : ExprTree) (t : Settled) → Passing t.code → Left F t.target → F e → Passing (assign_after s e t).code
+  after_runs e t h g fine = each-append test t.code (assign_settled s t.target e t.made).code h (settled_runs t.target e t.made g fine)
 
   assign_runs : (l e : ExprTree) (made : List Ty) → Left F l → F e → Passing (assign s l e made).code
   assign_runs l e made h g =
-      where_chosen (λ (c : Coded). Passing c.code) (has_call l || has_call e) (assign_behind s e (settle s l made)) (assign_settled s l e made)
-      (λ yes. behind_runs e (settle s l made) (settle_runs l made h) (settle_left l made h) g)
+      where_chosen (λ (c : Coded). Passing c.code) (has_call l || has_call e) (assign_after s e (settle s l made)) (assign_settled s l e made)
+      (λ yes. after_runs e (settle s l made) (settle_runs l made h) (settle_left l made h) g)
       (λ no. settled_runs l e made h g)
 
   update_runs : (o : Operator) (l e : ExprTree) (made : List Ty) → Left F l → F l → F e → Passing (update s o l e made).code
   update_runs o l e made h g i =
       let t = settle s l made in
-      behind_runs (BinaryOf (place_of t.target) o t.target e) t (settle_runs l made h) (settle_left l made h) (w.binary_fine (place_of t.target) o t.target e (settle_fine l made h g) i)
+      after_runs (BinaryOf (place_of t.target) o t.target e) t (settle_runs l made h) (settle_left l made h) (w.binary_fine (place_of t.target) o t.target e (settle_fine l made h g) i)
 
   assignment_runs : (l : ExprTree) (o : AssignOperator) (e : ExprTree) (made : List Ty) → Assigning F o l e → Passing (assignment s l o e made).code
   assignment_runs l operator.Set e made h = assign_runs l e made h.0 h.1
@@ -196,7 +196,7 @@ module _ (F : ExprTree → Type 0) (A : Arguments → Type 0) (P : core.ExprTree
 
   -- ---- `base(..)`
 
-  pub ready_runs : (p : Place) (t : ℕ) → test (ReadyStmt p) ≡ true → Passing (ready_behind s p t)
+  pub ready_runs : (p : Place) (t : ℕ) → test (ReadyStmt p) ≡ true → Passing (ready_after s p t)
   ready_runs p t h =
       where_chosen Passing s.body.flags.delayed [] (if has_delayed_constructor s.program t then ReadyStmt p ∷ [] else []) (λ yes. refl)
       (λ no. where_chosen Passing (has_delayed_constructor s.program t) (ReadyStmt p ∷ []) [] (λ yes. and_from _ _ h refl) (λ other. refl))
@@ -205,9 +205,9 @@ module _ (F : ExprTree → Type 0) (A : Arguments → Type 0) (P : core.ExprTree
   base_runs p es t made ready call h =
       let l = arguments_of s (param_types_in (constructor_of s.program t)) es made in
       let fit = arguments_fit F A P test s k (param_types_in (constructor_of s.program t)) es made h in
-      where_chosen (λ (c : Coded). Passing c.code) (t == 0) (record { code = ready_behind s p t; made = made }) (base_with s p t l)
+      where_chosen (λ (c : Coded). Passing c.code) (t == 0) (record { code = ready_after s p t; made = made }) (base_with s p t l)
       (λ yes. ready_runs p t ready)
-      (λ no. each-append test l.code (CallStmt p None (BaseConstructor (number_of s.program (Constructor t))) l.values ∷ ready_behind s p t) fit.0 (and_from _ _ (call (number_of s.program (Constructor t)) l.values fit.1) (ready_runs p t ready)))
+      (λ no. each-append test l.code (CallStmt p None (BaseConstructor (number_of s.program (Constructor t))) l.values ∷ ready_after s p t) fit.0 (and_from _ _ (call (number_of s.program (Constructor t)) l.values fit.1) (ready_runs p t ready)))
 
   pub simple_runs : (B : Arguments → Type 0) → ((p : Place) (es : Arguments) (made : List Ty) → B es → Passing (base_of s p es (above_of s.program s.body.class) made).code) → (x : SimpleTree) (made : List Ty) → InSimple F B x → Passing (simple s x made).code
   simple_runs B base (AssignOf l o e) made h = assignment_runs l o e made h

@@ -71,7 +71,7 @@ module _ (c : core.CoreTree) (b : core.BodyTree) (n : Numbers) (first : Fields) 
   meets (Some a) (Some d) (Some k) None h g = record { own = λ i e. h.own i (of_both a.own d.own i e).0; given = h.given }
   meets (Some a) (Some d) (Some k) (Some l) h g = record { own = λ i e. let p = of_both a.own d.own i e in and_from _ _ (h.own i p.0) (g.own i p.1); given = λ f e. and_from _ _ (h.given f e) (g.given f e) }
 
-  -- behind code that only adds
+  -- after code that only adds
   pub adds : (a : Assigned) (k : Fields) (xs : Code) → IsMild xs → Knows a k → KnowsAt (Some a) (at_end (fields_flow c b) (code_of xs) (Some k))
   adds a k xs mild h = let r = mild_end c b (code_of xs) k mild in subst (KnowsAt (Some a)) (sym r.is) (more a k r.fields h r.grows)
 
@@ -123,7 +123,7 @@ module _ (c : core.CoreTree) (b : core.BodyTree) (n : Numbers) (first : Fields) 
     done (BaseCallOf p es) made a k h = raised a (at_end (fields_flow c b) (code_of (simple z (BaseCallOf p es) made).code) (Some k)) (adds a k (simple z (BaseCallOf p es) made).code (simple_is_mild z (BaseCallOf p es) made) h)
     done x made a k h = adds a k (simple z x made).code (simple_is_mild z x made) h
 
-    -- simple statements one behind the other
+    -- simple statements one after the other
     pub simples_go : (ss : StmtTrees) (made : List Ty) (a : Assigned) (k : Fields) → OnlySimple ss → Knows a k → KnowsAt (source.at_end flow ss (Some a)) (at_end (fields_flow c b) (code_of (stmts z ss made).code) (Some k))
     simples_go NoMore made a k only h = h
     simples_go (Before (SimpleOf x) ss) made a k only h =
@@ -161,16 +161,16 @@ module _ (c : core.CoreTree) (b : core.BodyTree) (n : Numbers) (first : Fields) 
     abbrev End : Code → Option Fields → Option Fields
     End xs k = at_end (fields_flow c b) (code_of xs) k
 
-    -- from what is known here the code passes, and behind it at least this is known
+    -- from what is known here the code passes, and after it at least this is known
     abbrev pub Goes : Code → Fields → Option Assigned → Type 0
     Goes xs k a = Holds xs (Some k) × KnowsAt a (End xs (Some k))
 
     mild_goes : (xs : Code) (a : Assigned) (k : Fields) → IsMild xs → Knows a k → Goes xs k (Some a)
     mild_goes xs a k mild h = (mild_holds c b check asked (code_of xs) (Some k) mild, adds a k xs mild h)
 
-    -- code behind code that only adds
-    behind_mild : (xs ys : Code) (a : Assigned) (k : Fields) (d : Option Assigned) → IsMild xs → Knows a k → ((l : Fields) → Knows a l → Goes ys l d) → Goes (xs ++ ys) k d
-    behind_mild xs ys a k d mild h rest =
+    -- code after code that only adds
+    after_mild : (xs ys : Code) (a : Assigned) (k : Fields) (d : Option Assigned) → IsMild xs → Knows a k → ((l : Fields) → Knows a l → Goes ys l d) → Goes (xs ++ ys) k d
+    after_mild xs ys a k d mild h rest =
         let r = mild_end c b (code_of xs) k mild in
         let g = rest r.fields (more a k r.fields h r.grows) in
         let there : End xs (Some k) ≡ Some r.fields = r.is in (
@@ -178,7 +178,7 @@ module _ (c : core.CoreTree) (b : core.BodyTree) (n : Numbers) (first : Fields) 
           subst (KnowsAt d) (sym (at_end-append (fields_flow c b) xs ys (Some k) ∙ ap (End ys) there)) g.1,
         )
 
-    -- code that only adds behind code
+    -- code that only adds after code
     before_mild : (xs ys : Code) (k : Fields) (d : Option Assigned) → Goes xs k d → IsMild ys → Goes (xs ++ ys) k d
     before_mild xs ys k d h mild = (
       holds-append (fields_flow c b) check xs ys (Some k) h.0 (mild_holds c b check asked (code_of ys) (End xs (Some k)) mild),
@@ -195,7 +195,7 @@ module _ (c : core.CoreTree) (b : core.BodyTree) (n : Numbers) (first : Fields) 
         Goes ((value (at os) e made).code ++ IfStmt p (value (at os) e made).value (code_of one) (code_of other) ∷ []) k (source.met flow x y)
     branch_goes p e os made one other a k x y h f g =
         let v = value (at os) e made in
-        behind_mild v.code (IfStmt p v.value (code_of one) (code_of other) ∷ []) a k (source.met flow x y) (value_is_mild (at os) e made) h
+        after_mild v.code (IfStmt p v.value (code_of one) (code_of other) ∷ []) a k (source.met flow x y) (value_is_mild (at os) e made) h
         (λ l i.
         let left_side = f l i in
         let right = g l i in
@@ -221,13 +221,13 @@ module _ (c : core.CoreTree) (b : core.BodyTree) (n : Numbers) (first : Fields) 
         let turns : Holds turn (in_body (fields_flow c b) test (End prelude (Some k))) = subst (Holds turn) (sym inside) (body r.fields inner) in
         let again = any_reached c b (check.statement s) (λ l. asked.others s l refl) (End turn (in_body (fields_flow c b) test (End prelude (Some k)))) in (
           and_from _ _ (and_from _ _ (and_from _ _ (and_from _ _ (and_from _ _ (asked.others s k refl) (mild_holds c b check asked (code_of prelude) (Some k) mild)) tests) turns) again) refl,
-          subst (λ x. KnowsAt (if always then None else Some a) (left (fields_flow c b) test x)) (sym r.is) (behind_loop always (is_literal_true test) r.fields literal inner),
+          subst (λ x. KnowsAt (if always then None else Some a) (left (fields_flow c b) test x)) (sym r.is) (after_loop always (is_literal_true test) r.fields literal inner),
         )
       where
-        behind_loop : (v w : Bool) (l : Fields) → (v ≡ true → w ≡ true) → Knows a l → KnowsAt (if v then None else Some a) (if w then None else option_map (λ x. x) (Some l))
-        behind_loop true w l i j = ap (λ u. if u then None else option_map (λ x. x) (Some l)) (i refl)
-        behind_loop false true l i j = tt
-        behind_loop false false l i j = j
+        after_loop : (v w : Bool) (l : Fields) → (v ≡ true → w ≡ true) → Knows a l → KnowsAt (if v then None else Some a) (if w then None else option_map (λ x. x) (Some l))
+        after_loop true w l i j = ap (λ u. if u then None else option_map (λ x. x) (Some l)) (i refl)
+        after_loop false true l i j = tt
+        after_loop false false l i j = j
 
     -- ---- returns
 
@@ -239,7 +239,7 @@ module _ (c : core.CoreTree) (b : core.BodyTree) (n : Numbers) (first : Fields) 
     leaving_mild os p = each-append is_mild (map pack_of (reverse os)) (pack_this (at os) p) (packs_mild (reverse os)) (where_chosen IsMild z.body.flags.ctor (PackStmt p 0 z.body.class ∷ []) [] (λ yes. refl) (λ no. refl))
 
     return_goes : (xs : Code) (p : Place) (e : Option core.ExprTree) (a : Assigned) (k : Fields) → IsMild xs → Knows a k → fault (Some a) ≡ [] → Goes (xs ++ ReturnStmt p e ∷ []) k None
-    return_goes xs p e a k mild h none = behind_mild xs (ReturnStmt p e ∷ []) a k None mild h (λ l i. (and_from _ _ (complete a l i none p e) refl, refl))
+    return_goes xs p e a k mild h none = after_mild xs (ReturnStmt p e ∷ []) a k None mild h (λ l i. (and_from _ _ (complete a l i none p e) refl, refl))
 
     leave_with_goes : (os : List Opened) (p : Place) (v : Valued) (a : Assigned) (k : Fields) → IsMild v.code → Knows a k → fault (Some a) ≡ [] → Goes (leave_with (at os) p v).code k None
     leave_with_goes os p v a k mild h none = return_goes (v.code ++ packs (at os) p) p (Some v.value) a k (each-append is_mild v.code (packs (at os) p) mild (leaving_mild os p)) h none
@@ -272,12 +272,12 @@ module _ (c : core.CoreTree) (b : core.BodyTree) (n : Numbers) (first : Fields) 
         let v = in_temporary z.numbers (place_of e) (temporary_type any_object (type_of e)) l in
         let fit = temporary_fits Anything AnyGiven any_passes is_mild (at os) (all_mild z.numbers) (place_of e) (temporary_type any_object (type_of e)) l (right_is_mild (at os) e made) in
         let inside = inner (at (os ++ o ∷ [])) v.made in
-        behind_mild (v.code ++ UnpackStmt p (next z.numbers l.made) t ∷ []) (close o reaches inside).code a k d (each-append is_mild v.code (UnpackStmt p (next z.numbers l.made) t ∷ []) fit.0 refl) h
+        after_mild (v.code ++ UnpackStmt p (next z.numbers l.made) t ∷ []) (close o reaches inside).code a k d (each-append is_mild v.code (UnpackStmt p (next z.numbers l.made) t ∷ []) fit.0 refl) h
         (λ m i. close_goes o reaches inside m d (f o v.made m i))
 
-    -- ---- statements one behind the other
+    -- ---- statements one after the other
 
-    -- what stands behind code is dropped where that doesn't reach its end
+    -- what stands after code is dropped where that doesn't reach its end
     then_goes : (first : Coded) (reaches : Bool) (next : List Ty → Coded) (k : Fields) (d : Option Assigned) (r : Option Assigned) → Goes first.code k d → (reaches ≡ false → End first.code (Some k) ≡ None) → ((a : Assigned) (l : Fields) → d ≡ Some a → Knows a l → Goes (next first.made).code l r) → (d ≡ None → r ≡ None) →
         Goes (then_code first (if reaches then next else nothing)).code k r
     then_goes first reaches next k d r h stops_there f none =
@@ -318,7 +318,7 @@ module _ (c : core.CoreTree) (b : core.BodyTree) (n : Numbers) (first : Fields) 
         let v = value (at os) e made in
         loop_goes p (all_plain z.numbers is) v.value os v.code (turn v.made).code (is_true e) a k (value_is_mild (at os) e made) (λ i. test_value os e made i) h (λ l i. f v.made l i)
 
-    -- code behind code whose end is known
+    -- code after code whose end is known
     two_goes : (xs ys : Code) (k : Fields) (d : Assigned) (r : Option Assigned) → Goes xs k (Some d) → ((l : Fields) → Knows d l → Goes ys l r) → Goes (xs ++ ys) k r
     two_goes xs ys k d r h f = by (End xs (Some k)) refl h.1
       where
@@ -360,10 +360,10 @@ module _ (c : core.CoreTree) (b : core.BodyTree) (n : Numbers) (first : Fields) 
       stmt_goes os (ReturnOf p e) made a k h none = leave_goes os p e made a k h none
       stmt_goes os (AssertOf p e) made a k h none = mild_goes (core.AssertStmt p (plain z.numbers e) ∷ []) a k refl h
       stmt_goes os (AssumeOf p e) made a k h none = mild_goes (core.AssumeStmt p (plain z.numbers e) ∷ []) a k refl h
-      stmt_goes os (ExposeOf p e t d) made a k h none = expose_goes os p e (exposed_class e t) (block_can_end d) (λ y m. block y d m) made a k (source.behind_block flow d a) h (λ o m l i. block_goes (os ++ o ∷ []) d m a l i none)
+      stmt_goes os (ExposeOf p e t d) made a k h none = expose_goes os p e (exposed_class e t) (block_can_end d) (λ y m. block y d m) made a k (source.after_block flow d a) h (λ o m l i. block_goes (os ++ o ∷ []) d m a l i none)
       stmt_goes os (EmptyOf p) made a k h none = (refl, h)
 
-      pub block_goes : (os : List Opened) (d : BlockTree) (made : List Ty) (a : Assigned) (k : Fields) → Knows a k → source.faults_in flow ends d (Some a) ≡ [] → Goes (block (at os) d made).code k (source.behind_block flow d a)
+      pub block_goes : (os : List Opened) (d : BlockTree) (made : List Ty) (a : Assigned) (k : Fields) → Knows a k → source.faults_in flow ends d (Some a) ≡ [] → Goes (block (at os) d made).code k (source.after_block flow d a)
       block_goes os (BlockOf p ss end) made a k h none = stmts_go os ss made a k h none
 
       pub stmts_go : (os : List Opened) (ss : StmtTrees) (made : List Ty) (a : Assigned) (k : Fields) → Knows a k → source.faults_along flow ends ss (Some a) ≡ [] → Goes (stmts (at os) ss made).code k (source.at_end flow ss (Some a))

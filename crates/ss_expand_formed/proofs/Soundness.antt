@@ -37,7 +37,7 @@ use Rattle.ss_expand_formed.proofs.Classes.{type_there}
 use Rattle.ss_expand_formed.proofs.ExpressionsPlaces.{has_answer, all_answered, At, scope_at, env_at, IsKnown, IsPlace}
 use Rattle.ss_expand_formed.proofs.Conditions.{condition_sound}
 use Rattle.ss_expand_formed.proofs.ContractsConditions.{contract_context, IsSoundCondition}
-use Rattle.ss_expand_formed.proofs.Scenes.{context_of, scope_behind, names_behind, is_place, result_there}
+use Rattle.ss_expand_formed.proofs.Scenes.{context_of, scope_after, names_after, is_place, result_there}
 use Rattle.ss_expand_formed.proofs.ContractsSources.{HasClauses, body_of, place_in}
 
 -- where no `result` is allowed, none stands
@@ -113,13 +113,13 @@ module _ (p : ProgramTree) (faultless : program_faults p ≡ []) (d : BodyTree) 
 
   pub names_scope : scopes.declare_params (in_method (class_scope p.classes h.class) h.static (result_type p.classes h.result)) h.params ≡ refusing h.static false (scope_at p here)
   names_scope =
-      scope_behind (in_method (class_scope p.classes h.class) h.static (result_type p.classes h.result)) h.params
-      ∙ ap (λ (o : Option Ty). record { classes = p.classes; class = h.class; refuses_members = h.static; refuses_this = false; outcome = o; inner = names_behind p.classes [] h.params; outer = [] }) result_is
+      scope_after (in_method (class_scope p.classes h.class) h.static (result_type p.classes h.result)) h.params
+      ∙ ap (λ (o : Option Ty). record { classes = p.classes; class = h.class; refuses_members = h.static; refuses_this = false; outcome = o; inner = names_after p.classes [] h.params; outer = [] }) result_is
 
   pub types_scope : types.method_scope p.classes h.class (body_of p.classes h.static h.result) h.params ≡ refusing h.static h.static (scope_at p here)
   types_scope =
-      scope_behind (record (class_scope p.classes h.class) { refuses_members = h.static; refuses_this = h.static; outcome = types.type_of_result (types.outcome_of p.classes h.result) }) h.params
-      ∙ ap (λ (o : Option Ty). record { classes = p.classes; class = h.class; refuses_members = h.static; refuses_this = h.static; outcome = o; inner = names_behind p.classes [] h.params; outer = [] }) (outcome_is p.classes h.result ∙ result_is)
+      scope_after (record (class_scope p.classes h.class) { refuses_members = h.static; refuses_this = h.static; outcome = types.type_of_result (types.outcome_of p.classes h.result) }) h.params
+      ∙ ap (λ (o : Option Ty). record { classes = p.classes; class = h.class; refuses_members = h.static; refuses_this = h.static; outcome = o; inner = names_after p.classes [] h.params; outer = [] }) (outcome_is p.classes h.result ∙ result_is)
 
   -- a condition without faults, whose words may stand there
   sound_condition : (w : Allowed) (lacks answer : Bool) → IsPlace p context_here h.static lacks answer here → (y : text.ExprTree) → has_answer answer y ≡ true → expr_faults (refusing h.static false (scope_at p here)) y ≡ [] →

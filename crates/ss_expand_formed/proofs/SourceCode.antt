@@ -39,7 +39,7 @@ use Rattle.ss_resolver_rules.specs.declared.known.Known.{Known as KnownName}
 use Rattle.ss_resolver_rules.specs.declared.known.Known.TheVariants.{Variable, BoundName}
 use Rattle.ss_resolver_rules.specs.Names as names_of
 use Rattle.ss_resolver_rules.specs.Numbers.{number_or_object, class_in, type_id, method_id, table_place}
-use Rattle.ss_resolver_rules.specs.Expressions.{this, read_field, known_or_field, bare_name, field_behind, state_word, member, third_class, method_call, base_call, place_or_own, state_question, first_class, owner_question, called_behind, called_bare, expr, args}
+use Rattle.ss_resolver_rules.specs.Expressions.{this, read_field, known_or_field, bare_name, field_after, state_word, member, third_class, method_call, base_call, place_or_own, state_question, first_class, owner_question, called_after, called_bare, expr, args}
 use Rattle.ss_resolver_rules.specs.Programs.{resolved}
 use Rattle.ss_expand_rules.specs.Program.{above_of}
 use Rattle.ss_typed.specs.Lookups.{constructor_of, param_types_in}
@@ -57,7 +57,7 @@ use Rattle.ss_expand_formed.proofs.BeforeReads.{before_read}
 use Rattle.ss_expand_formed.proofs.Answered.{answered}
 use Rattle.ss_expand_formed.proofs.CallsSound.{class_there, takes_all, args_fit}
 use Rattle.ss_expand_formed.proofs.Methods.{constructor_has}
-use Rattle.ss_expand_formed.proofs.CallsBehind.{meant, kind_called, not_static, print_takes, object_called, console_sound}
+use Rattle.ss_expand_formed.proofs.CallsAfter.{meant, kind_called, not_static, print_takes, object_called, console_sound}
 use Rattle.ss_expand_formed.proofs.ExpressionsSources.{sound}
 use Rattle.ss_expand_formed.proofs.Calls.{inherited_from, asks_none, code_sound, code_args}
 use Rattle.ss_expand_formed.proofs.Fits.{can_lift, can_lift_all, FitCode}
@@ -71,7 +71,7 @@ is_the_console TheBase = false
 is_the_console (AClass k) = false
 is_the_console (AValue t) = false
 
--- a call of a word behind `Console`, which leaves no trace in the resolved expression
+-- a call of a word after `Console`, which leaves no trace in the resolved expression
 abbrev pub prints : Scope → text.ExprTree → Bool
 prints s (CallOf q (MemberOf m y n) es) = is_the_console (receiver s y (statics.static s y))
 prints s (ParenOf q y) = prints s y
@@ -134,11 +134,11 @@ member_lifts e q o n t h = by (is_state_read n) (is_array_number t)
     of_field None = refl
     of_field (Some f) = h
 
-    behind : (k : Option ℕ) → can_lift (field_behind e q o n k) ≡ true
+    behind : (k : Option ℕ) → can_lift (field_after e q o n k) ≡ true
     behind None = h
     behind (Some k) = of_field (field_of e.scope.classes k n)
 
-    by : (b i : Bool) → can_lift (if b then StateOf q (state_word n) o else if i then LengthOf q o else field_behind e q o n (declared_place t)) ≡ true
+    by : (b i : Bool) → can_lift (if b then StateOf q (state_word n) o else if i then LengthOf q o else field_after e q o n (declared_place t)) ≡ true
     by true i = refl
     by false true = h
     by false false = behind (declared_place t)
@@ -172,17 +172,17 @@ record IsKept (q : Place) (o : ExprTree) (given : typed.Arguments) (tree : ExprT
   type : Option Ty
   is : tree ≡ CallTree q o number type given
 
-value_tree : (e : Env) (q : Place) (o : ExprTree) (n : List ℕ) (es : Arguments) (given : typed.Arguments) (t : Option Ty) (k : Option ℕ) → IsKept q o given (called_behind e q (AValue t) o n es given (statics.method_at e.scope.classes n k))
+value_tree : (e : Env) (q : Place) (o : ExprTree) (n : List ℕ) (es : Arguments) (given : typed.Arguments) (t : Option Ty) (k : Option ℕ) → IsKept q o given (called_after e q (AValue t) o n es given (statics.method_at e.scope.classes n k))
 value_tree e q o n es given t None = record { number = 0; type = None; is = refl }
 value_tree e q o n es given t (Some k) = of_method (method_of e.scope.classes k n)
   where
-    of_kind : (m : Declared MethodTree) (b : Bool) → is_of_kind false m.member ≡ b → IsKept q o given (called_behind e q (AValue t) o n es given (if b then AMethod m else NoCallee))
+    of_kind : (m : Declared MethodTree) (b : Bool) → is_of_kind false m.member ≡ b → IsKept q o given (called_after e q (AValue t) o n es given (if b then AMethod m else NoCallee))
     of_kind m true i =
         let j = place_or_own e (option_and_then declared_place (option_and_then class_of t)) in
         record { number = table_place e.scope.classes j m.member.name.text; type = result_type e.scope.classes m.member.result; is = object_tree e q j o given m (not_static m.member i) }
     of_kind m false i = record { number = 0; type = None; is = refl }
 
-    of_method : (m : Option (Declared MethodTree)) → IsKept q o given (called_behind e q (AValue t) o n es given (statics.kind_callee false m))
+    of_method : (m : Option (Declared MethodTree)) → IsKept q o given (called_after e q (AValue t) o n es given (statics.kind_callee false m))
     of_method None = record { number = 0; type = None; is = refl }
     of_method (Some m) = of_kind m (is_of_kind false m.member) refl
 
@@ -272,7 +272,7 @@ module _ (p : ProgramTree) (faultless : program_faults p ≡ []) (x : Context) (
     at_U : (y : text.ExprTree) → faults A BeforeDot y ≡ [] → receiver U y (statics.static U y) ≡ receiver S y (statics.static S y)
     at_U y h = receiver_of static false false S refl static false (λ e. (e, refl)) y h
 
-    -- a call of a word behind `Console`
+    -- a call of a word after `Console`
     console_call : (q m : Place) (y : text.ExprTree) (n : NameTree) (es : Arguments) → receiver S y (statics.static S y) ≡ TheConsole → expr_faults U (CallOf q (MemberOf m y n) es) ≡ [] → faults A AsValue (CallOf q (MemberOf m y n) es) ≡ [] →
         (receiver T y (statics.static T y) ≡ TheConsole) × (is_print n.text ≡ true) × (is_wrong_call (count es) (called_console (count es) n.text) ≡ false)
     console_call q m y n es r names types =
@@ -368,12 +368,12 @@ module _ (p : ProgramTree) (faultless : program_faults p ≡ []) (x : Context) (
         let all = taken_clear es meaning d.2 ih wrong four.3 both.1 given in
         (all.0, ap can_lift tree ∙ call_lifts E q a.class (this E r) (args E es) d.0 refl all.1)
 
-    -- ---- calls behind a dot
+    -- ---- calls after a dot
 
     abbrev Tree : Place → Receiver → text.ExprTree → List ℕ → Arguments → ExprTree
-    Tree q r y n es = called_behind E q r (expr E y) n es (args E es) (member_callee S n r)
+    Tree q r y n es = called_after E q r (expr E y) n es (args E es) (member_callee S n r)
 
-    -- what a call behind a dot is to be
+    -- what a call after a dot is to be
     abbrev Behind : Place → Receiver → text.ExprTree → List ℕ → Arguments → Type 0
     Behind q r y n es = ((has_answer false y && have_answer false es) ≡ true) × (can_lift (Tree q r y n es) ≡ true)
 
@@ -386,7 +386,7 @@ module _ (p : ProgramTree) (faultless : program_faults p ≡ []) (x : Context) (
         let j = inherited_from p.classes a.class n.text w.method w.is in
         let callee_is : member_callee S n.text TheBase ≡ AMethod w.method = rw (or_false static (is_state_word n.text) free).1 (kind_called false (inherited_method p.classes a.class n.text) w.method w.is w.kind_is) in
         let tree : Tree q TheBase y n.text es ≡ BaseTree q (table_place p.classes j.0 w.method.member.name.text) (result_type p.classes w.method.member.result) (args E es) =
-        ap (called_behind E q TheBase (expr E y) n.text es (args E es)) callee_is ∙ ap (base_call E q (args E es) w.method) j.1 in
+        ap (called_after E q TheBase (expr E y) n.text es (args E es)) callee_is ∙ ap (base_call E q (args E es) w.method) j.1 in
         let all = taken_clear es (method_or_field p.classes false (inherited_method p.classes a.class n.text) f) (w.method.member.params, w.takes) ih wrong types names (subst (λ z. misplaced NoWord z ≡ []) tree words) in
         (and_from _ _ ans all.0, ap can_lift tree ∙ all.1)
 
@@ -396,7 +396,7 @@ module _ (p : ProgramTree) (faultless : program_faults p ≡ []) (x : Context) (
         let w = meant p.classes true (method_of p.classes j n.text) (field_of p.classes j n.text) (count es) wrong known in
         let callee_is : member_callee S n.text (AClass j) ≡ AMethod w.method = rw word (kind_called true (method_of p.classes j n.text) w.method w.is w.kind_is) in
         let tree : Tree q (AClass j) y n.text es ≡ StaticTree q (method_id p.classes w.method.class w.method.member.name.text) (result_type p.classes w.method.member.result) (args E es) =
-        ap (called_behind E q (AClass j) (expr E y) n.text es (args E es)) callee_is ∙ static_tree E q j (expr E y) (args E es) w.method w.kind_is in
+        ap (called_after E q (AClass j) (expr E y) n.text es (args E es)) callee_is ∙ static_tree E q j (expr E y) (args E es) w.method w.kind_is in
         let all = taken_clear es (called_on_class p.classes true j n.text) (w.method.member.params, w.takes) ih wrong types names (subst (λ z. misplaced NoWord z ≡ []) tree words) in
         (and_from _ _ ans all.0, ap can_lift tree ∙ all.1)
 
@@ -450,7 +450,7 @@ module _ (p : ProgramTree) (faultless : program_faults p ≡ []) (x : Context) (
         asked d may =
             let word = level_word (statics.static S y) may in
             let callee_is : member_callee S n.text (AValue (statics.static S y)) ≡ AWord word.0 = rw d word.1 in
-            let z = subst (λ c. misplaced NoWord (called_behind E q (AValue (statics.static S y)) (expr E y) n.text es (args E es) c) ≡ []) callee_is words in
+            let z = subst (λ c. misplaced NoWord (called_after E q (AValue (statics.static S y)) (expr E y) n.text es (args E es) c) ≡ []) callee_is words in
             no_question q n.text (first_class E es) (expr E y) z
 
         by : (b d e : Bool) → is_state_read n.text ≡ b → is_state_call n.text ≡ d → has_no_members (known T y) ≡ e →
@@ -500,7 +500,7 @@ module _ (p : ProgramTree) (faultless : program_faults p ≡ []) (x : Context) (
         of_owner : receiver S y (statics.static S y) ≡ TheOwner → (b : Bool) → is_owner_word n.text ≡ b → b ≡ true → misplaced NoWord (Tree q TheOwner y n.text es) ≡ [] → Behind q TheOwner y n.text es
         of_owner e b i known z =
             let callee_is : member_callee S n.text TheOwner ≡ AWord (statics.owner_count n.text) = rw (i ∙ known) refl in
-            let tree : Tree q TheOwner y n.text es ≡ owner_question E q n.text es (args E es) = ap (called_behind E q TheOwner (expr E y) n.text es (args E es)) callee_is in
+            let tree : Tree q TheOwner y n.text es ≡ owner_question E q n.text es (args E es) = ap (called_after E q TheOwner (expr E y) n.text es (args E es)) callee_is in
             let o = owner_words E q n.text es (subst (λ w. misplaced NoWord w ≡ []) tree z) in
             (and_from _ _ (named_answer S y TheOwner e (λ t z. let w : ⊥ = cc in w)) o.0, ap can_lift tree ∙ o.1)
 
@@ -547,7 +547,7 @@ module _ (p : ProgramTree) (faultless : program_faults p ≡ []) (x : Context) (
         no_state (core.Packed t) h = cc
         no_state core.Unowned h = cc
 
-        none_read : (b : Bool) → misplaced NoWord (if b then StateOf q (state_word n.text) (expr E y) else if is_array_number (class_in (statics.static S y)) then LengthOf q (expr E y) else field_behind E q (expr E y) n.text (declared_place (class_in (statics.static S y)))) ≡ [] → b ≡ false
+        none_read : (b : Bool) → misplaced NoWord (if b then StateOf q (state_word n.text) (expr E y) else if is_array_number (class_in (statics.static S y)) then LengthOf q (expr E y) else field_after E q (expr E y) n.text (declared_place (class_in (statics.static S y)))) ≡ [] → b ≡ false
         none_read true h = absurd (no_state (state_word n.text) h)
         none_read false h = refl
 
@@ -625,7 +625,7 @@ module _ (p : ProgramTree) (faultless : program_faults p ≡ []) (x : Context) (
             let callee_is : member_callee S n.text TheConsole ≡ APrint (bytes_eq n.text (codes "WriteLine")) = rw c.1 refl in
             record {
               sound = console_sound p faultless x is_known_there static false false a here q m y n es e c.0 c.1 c.2;
-              lifts = ap (λ r. can_lift (called_behind E q r (expr E y) n.text es (args E es) (member_callee S n.text r))) e ∙ ap (λ k. can_lift (called_behind E q TheConsole (expr E y) n.text es (args E es) k)) callee_is;
+              lifts = ap (λ r. can_lift (called_after E q r (expr E y) n.text es (args E es) (member_callee S n.text r))) e ∙ ap (λ k. can_lift (called_after E q TheConsole (expr E y) n.text es (args E es) k)) callee_is;
             }
         by TheOwner e g = absurd (false≢true g)
         by TheBase e g = absurd (false≢true g)

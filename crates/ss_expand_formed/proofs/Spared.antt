@@ -22,7 +22,7 @@ use Rattle.ss_expand_rules.specs.Program.{field_at, above_of}
 use Rattle.ss_typed.specs.Lookups.{constructor_of, param_types_in}
 use Rattle.ss_expand_rules.specs.Code.{Coded, nothing, then_code}
 use Rattle.ss_expand_rules.specs.Lifting.{Opened, ElaborationContext, Source, Pure, Created, CreatedArray, Called, put, Lifted, Valued, Listed, unlifted, next, temporary_type, any_object, valued_from, lifted, in_temporaries, right_side, value, arguments_of}
-use Rattle.ss_expand_rules.specs.Simple.{write_of, write, assign_settled, Settled, settle_lifted, settle_part, settle, assign_behind, assign, update, assignment, step_operator, declared_as, declare, drop_result, print, has_delayed_constructor, ready_behind, base_with, base_of, simple}
+use Rattle.ss_expand_rules.specs.Simple.{write_of, write, assign_settled, Settled, settle_lifted, settle_part, settle, assign_after, assign, update, assignment, step_operator, declared_as, declare, drop_result, print, has_delayed_constructor, ready_after, base_with, base_of, simple}
 use Rattle.ss_expand_rules.specs.Ends.{can_end, block_can_end}
 use Rattle.ss_expand_rules.specs.Statements.{loop_while, begin, advance, pack_of, packs, leave_with, kept_result, leave_value, leave, exposed_class, within, close, opened, expose_lifted, stmt, block, stmts}
 use Rattle.ss_store_rules.specs.Locals.{each, targets_only}
@@ -131,18 +131,18 @@ module _ (y : ℕ) where
     settled_passes f (ElementOf p a i) made h = refl
     settled_passes f target made h = h
 
-    behind_spares : (e : ExprTree) (t : Settled) → target_passes means_other t.target ≡ true → Spares t.code → Spares (assign_behind s e t).code
-    behind_spares e t h g = join t.code _ g (settled_spares t.target e t.made h)
+    after_spares : (e : ExprTree) (t : Settled) → target_passes means_other t.target ≡ true → Spares t.code → Spares (assign_after s e t).code
+    after_spares e t h g = join t.code _ g (settled_spares t.target e t.made h)
 
     assign_spares : (target e : ExprTree) (made : List Ty) → target_passes means_other target ≡ true → Spares (assign s target e made).code
     assign_spares target e made h =
-        on_either (λ (c : Coded). Spares c.code) (has_call target || has_call e) (assign_behind s e (settle s target made)) (assign_settled s target e made)
-        (behind_spares e (settle s target made) (settled_passes means_other target made h) (settle_spares target made)) (settled_spares target e made h)
+        on_either (λ (c : Coded). Spares c.code) (has_call target || has_call e) (assign_after s e (settle s target made)) (assign_settled s target e made)
+        (after_spares e (settle s target made) (settled_passes means_other target made h) (settle_spares target made)) (settled_spares target e made h)
 
     update_spares : (o : Operator) (target e : ExprTree) (made : List Ty) → target_passes means_other target ≡ true → Spares (update s o target e made).code
     update_spares o target e made h =
         let t = settle s target made in
-        behind_spares (BinaryOf (place_of t.target) o t.target e) t (settled_passes means_other target made h) (settle_spares target made)
+        after_spares (BinaryOf (place_of t.target) o t.target e) t (settled_passes means_other target made h) (settle_spares target made)
 
     assignment_spares : (target : ExprTree) (o : AssignOperator) (e : ExprTree) (made : List Ty) → target_passes means_other target ≡ true → Spares (assignment s target o e made).code
     assignment_spares target operator.Set e made h = assign_spares target e made h
@@ -170,7 +170,7 @@ module _ (y : ℕ) where
     print_spares p None line made = refl
     print_spares p (Some e) line made = join (value s e made).code _ (value_spares e made) refl
 
-    ready_spares : (p : Place) (t : ℕ) → Spares (ready_behind s p t)
+    ready_spares : (p : Place) (t : ℕ) → Spares (ready_after s p t)
     ready_spares p t =
         on_either (λ (c : Code). Spares c) s.body.flags.delayed [] (if has_delayed_constructor s.program t then core.ReadyStmt p ∷ [] else []) refl
         (on_either (λ (c : Code). Spares c) (has_delayed_constructor s.program t) (core.ReadyStmt p ∷ []) [] refl refl)
@@ -179,7 +179,7 @@ module _ (y : ℕ) where
     base_spares p es t made =
         let ts = param_types_in (constructor_of s.program t) in
         let l = arguments_of s ts es made in
-        on_either (λ (c : Coded). Spares c.code) (t == 0) (record { code = ready_behind s p t; made = made }) (base_with s p t l)
+        on_either (λ (c : Coded). Spares c.code) (t == 0) (record { code = ready_after s p t; made = made }) (base_with s p t l)
         (ready_spares p t) (join l.code _ (arguments_spares ts es made) (and_from _ _ refl (ready_spares p t)))
 
     simple_spares : (x : SimpleTree) (made : List Ty) → simple_passes means_other x ≡ true → Spares (simple s x made).code

@@ -7,7 +7,7 @@ use Rattle.ss_typed.specs.Tree.{ExprTree, Arguments, SimpleTree, BaseCallOf, Stm
 use Rattle.ss_typed.specs.Shapes.{has_base, is_base}
 use Rattle.ss_delayed_rules.specs.Opening.{is_first, first_run, before_base, opening_of, base_in}
 use Rattle.ss_delayed_rules.specs.Constructors.{arguments_of}
-use Rattle.ss_expand_rules.specs.Constructors.{before_all, behind_initial}
+use Rattle.ss_expand_rules.specs.Constructors.{before_all, after_initial}
 use Rattle.ss_expand_formed.proofs.Facts.{or_false}
 use Rattle.ss_expand_formed.proofs.Choices.{where_chosen}
 use Rattle.ss_expand_formed.proofs.ConstructionStatements.{Along}
@@ -53,7 +53,7 @@ split_at_base (Before s ss) h = by (is_base s) refl (λ i. split_at_base ss i)
 pub record SplitAtRun (p : TypedTree) (t : ℕ) (s : StmtTree) (ss : StmtTrees) : Type 0 where
   pub rest : StmtTrees
   pub is : ss ≡ before_all (first_run p t ss) rest
-  pub base : behind_initial p t s ss ≡ before_all (first_run p t ss) (Before s rest)
+  pub base : after_initial p t s ss ≡ before_all (first_run p t ss) (Before s rest)
 
 pub split_at_run : (p : TypedTree) (t : ℕ) (s : StmtTree) (ss : StmtTrees) → SplitAtRun p t s ss
 split_at_run p t s NoMore = record { rest = NoMore; is = refl; base = refl }
@@ -63,12 +63,12 @@ split_at_run p t s (Before x ss) = by (is_first p t x) refl (split_at_run p t s 
     by true e r = record {
       rest = r.rest;
       is = ap (Before x) r.is ∙ sym (ap (λ (v : Bool). before_all (if v then Before x (first_run p t ss) else NoMore) r.rest) e);
-      base = ap (λ (v : Bool). if v then Before x (behind_initial p t s ss) else Before s (Before x ss)) e ∙ ap (Before x) r.base ∙ sym (ap (λ (v : Bool). before_all (if v then Before x (first_run p t ss) else NoMore) (Before s r.rest)) e);
+      base = ap (λ (v : Bool). if v then Before x (after_initial p t s ss) else Before s (Before x ss)) e ∙ ap (Before x) r.base ∙ sym (ap (λ (v : Bool). before_all (if v then Before x (first_run p t ss) else NoMore) (Before s r.rest)) e);
     }
     by false e r = record {
       rest = Before x ss;
       is = sym (ap (λ (v : Bool). before_all (if v then Before x (first_run p t ss) else NoMore) (Before x ss)) e);
-      base = ap (λ (v : Bool). if v then Before x (behind_initial p t s ss) else Before s (Before x ss)) e ∙ sym (ap (λ (v : Bool). before_all (if v then Before x (first_run p t ss) else NoMore) (Before s (Before x ss))) e);
+      base = ap (λ (v : Bool). if v then Before x (after_initial p t s ss) else Before s (Before x ss)) e ∙ sym (ap (λ (v : Bool). before_all (if v then Before x (first_run p t ss) else NoMore) (Before s (Before x ss))) e);
     }
 
 -- ---- what holds along a block holds of its parts

@@ -1,4 +1,4 @@
--- What is known behind the beginnings of fields, and what that says of the fields of a class.
+-- What is known after the beginnings of fields, and what that says of the fields of a class.
 use Rattle.std.proofs.Common.{◌≡◌, ℕ, zero, suc, ◌+◌, ◌-◌, ◌*◌, ◌<◌, ◌≤◌, List, [], ◌∷◌, length, map, take, Bool, true, false, Option, Some, None, refl, sym, ◌∙◌, ap, subst, arith, ⊎_elim}
 use Rattle.std.specs.Prelude.{◌&&◌, ◌||◌, ◌==◌, not, nat_le, nat_lt, slice_get, sum_by, option_map, is_some, if◌then◌else◌}
 use Rattle.std.proofs.lemmas.Bool.{cases_Bool, and_parts, and_from, eq-eqb, leb-true, ltb-true, le-leb, lt-ltb, false≢true}
@@ -134,7 +134,7 @@ module _ (p : ProgramTree) (k : ℕ) (c : ClassTree) (at : slice_get p.classes k
   abbrev flow : source.Flow Assigned
   flow = assigned_flow n
 
-  -- behind the beginnings of these fields, of which the first stands at place j
+  -- after the beginnings of these fields, of which the first stands at place j
   pub record Begun (ms : List typed.FieldTree) (f j : ℕ) (a : Assigned) : Type 0 where
     pub state : Assigned
     pub is : source.at_end flow (initializers_from q t f ms) (Some a) ≡ Some state

@@ -8,7 +8,7 @@ use Rattle.ss_typed.specs.Tree as typed
 use Rattle.ss_expand_rules.specs.Program.{above_of}
 use Rattle.ss_typed.specs.Lookups.{constructor_of, param_types_in}
 use Rattle.ss_paths.specs.Opening.{is_first}
-use Rattle.ss_expand_rules.specs.Constructors.{before_all, initializers, behind_initial, base_alone, with_base, constructor_stmts}
+use Rattle.ss_expand_rules.specs.Constructors.{before_all, initializers, after_initial, base_alone, with_base, constructor_stmts}
 use Rattle.ss_typed.specs.Shapes.{closing_brace, in_block, has_base}
 use Rattle.ss_expand_rules.specs.Contracts.{first_param}
 use Rattle.ss_expand_rules.specs.Bodies.{with_return, statements}
@@ -35,15 +35,15 @@ module _ (p : TypedTree) (C : List core.ClassTree) (b : BodyTree) where
   block_in : (c : BlockTree) → FitBlock p C (context_of b) b.flags.ctor (first_param b + length b.params) c → InBody (in_block c)
   block_in (BlockOf q ss end) h = h
 
-  behind_in : (t : ℕ) (s : StmtTree) (ss : StmtTrees) → OneInBody s → InBody ss → InBody (behind_initial p t s ss)
+  behind_in : (t : ℕ) (s : StmtTree) (ss : StmtTrees) → OneInBody s → InBody ss → InBody (after_initial p t s ss)
   behind_in t s NoMore h g = (h, tt)
-  behind_in t s (Before x xs) h g = where_chosen InBody (is_first p t x) (Before x (behind_initial p t s xs)) (Before s (Before x xs)) (λ yes. (g.0, behind_in t s xs h g.1)) (λ no. (h, g))
+  behind_in t s (Before x xs) h g = where_chosen InBody (is_first p t x) (Before x (after_initial p t s xs)) (Before s (Before x xs)) (λ yes. (g.0, behind_in t s xs h g.1)) (λ no. (h, g))
 
   base_in : (base : Option BaseTree) (ss : StmtTrees) → b.flags.ctor ≡ true → ((x : BaseTree) → base ≡ Some x → GivenAbove x.arguments) → (base ≡ None → has_base ss ≡ false → GivenAbove typed.Arguments.NoMore) → InBody ss → InBody (with_base p b base ss)
   base_in (Some x) ss ctor given none h = ((ctor, given x refl), h)
   base_in None ss ctor given none h =
-      where_chosen InBody (has_base ss) ss (if b.flags.delayed then Before (base_alone b) ss else behind_initial p b.class (base_alone b) ss) (λ yes. h)
-      (λ no. where_chosen InBody b.flags.delayed (Before (base_alone b) ss) (behind_initial p b.class (base_alone b) ss) (λ late. ((ctor, none refl no), h)) (λ early. behind_in b.class (base_alone b) ss (ctor, none refl no) h))
+      where_chosen InBody (has_base ss) ss (if b.flags.delayed then Before (base_alone b) ss else after_initial p b.class (base_alone b) ss) (λ yes. h)
+      (λ no. where_chosen InBody b.flags.delayed (Before (base_alone b) ss) (after_initial p b.class (base_alone b) ss) (λ late. ((ctor, none refl no), h)) (λ early. behind_in b.class (base_alone b) ss (ctor, none refl no) h))
 
   abbrev OneReturn : Option Ty → Type 0
   OneReturn r = FitReturn p C (context_of b) b.flags.ctor (first_param b + length b.params) r None

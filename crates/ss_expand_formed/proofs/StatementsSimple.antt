@@ -28,7 +28,7 @@ use Rattle.ss_typed.specs.Shapes.{is_this, place_of}
 use Rattle.ss_expand_rules.specs.Program.{field_at, above_of, Constructor, number_of}
 use Rattle.ss_typed.specs.Lookups.{constructor_of, param_types_in}
 use Rattle.ss_expand_rules.specs.Lifting.{Opened, ElaborationContext, Source, Pure, Created, CreatedArray, Called, put, Lifted, next, temporary_type, any_object, right_side, value, arguments_of}
-use Rattle.ss_expand_rules.specs.Simple.{into_local, write_of, write, assign_settled, Settled, settle_lifted, settle_part, settle, assign_behind, assign, update, assignment, step_operator, default_of, declared_as, declare, drop_result, alone, print, has_delayed_constructor, ready_behind, base_with, base_of, simple}
+use Rattle.ss_expand_rules.specs.Simple.{into_local, write_of, write, assign_settled, Settled, settle_lifted, settle_part, settle, assign_after, assign, update, assignment, step_operator, default_of, declared_as, declare, drop_result, alone, print, has_delayed_constructor, ready_after, base_with, base_of, simple}
 use Rattle.ss_store_rules.specs.Changes.{below, is_array}
 use Rattle.ss_store_rules.specs.Types.{has_fitting, fits_type, is_int, is_bool, has_class, operation_type, element_of, code_type}
 use Rattle.ss_store_rules.specs.Typed.{same_mark, callee_of, fits_declared, has_type_in, is_write_of, is_element_write, is_printed}
@@ -251,16 +251,16 @@ module _ (z : Frame) (agrees : Agrees z) (source : Context) (wider : Wider sourc
 
   -- ---- assignments
 
-  behind_passes : (l e : ExprTree) (x : Settled) → Side l x → Codes e → fits_declared C (type_of e) (type_of l) ≡ true → HasMade z (assign_behind s e x).made → Passing z (assign_behind s e x).code
-  behind_passes l e x side f h m = each-append (passes z) x.code (assign_settled s x.target e x.made).code side.passes (settled_passes x.target e x.made side.codes side.parts f (ap (fits_declared C (type_of e)) side.type ∙ h) m)
+  after_passes : (l e : ExprTree) (x : Settled) → Side l x → Codes e → fits_declared C (type_of e) (type_of l) ≡ true → HasMade z (assign_after s e x).made → Passing z (assign_after s e x).code
+  after_passes l e x side f h m = each-append (passes z) x.code (assign_settled s x.target e x.made).code side.passes (settled_passes x.target e x.made side.codes side.parts f (ap (fits_declared C (type_of e)) side.type ∙ h) m)
 
   assign_passes : (l e : ExprTree) (made : List Ty) → Codes l → Codes e → fits_declared C (type_of e) (type_of l) ≡ true → HasMade z (assign s l e made).made → Passing z (assign s l e made).code
   assign_passes l e made g f h m = by (has_call l || has_call e) refl m
     where
-      by : (b : Bool) → (has_call l || has_call e) ≡ b → HasMade z (if b then assign_behind s e (settle s l made) else assign_settled s l e made).made → Passing z (if b then assign_behind s e (settle s l made) else assign_settled s l e made).code
+      by : (b : Bool) → (has_call l || has_call e) ≡ b → HasMade z (if b then assign_after s e (settle s l made) else assign_settled s l e made).made → Passing z (if b then assign_after s e (settle s l made) else assign_settled s l e made).code
       by true i m =
           let x = settle s l made in
-          behind_passes l e x (settle_passes l made g (made_before z agrees x.made (assign_behind s e x).made (settled_begins s x.target e x.made) m)) f h m
+          after_passes l e x (settle_passes l made g (made_before z agrees x.made (assign_after s e x).made (settled_begins s x.target e x.made) m)) f h m
       by false i m = settled_passes l e made g (parts_of l (or_false (has_call l) (has_call e) i).0) f h m
 
   -- of numbers
@@ -272,9 +272,9 @@ module _ (z : Frame) (agrees : Agrees z) (source : Context) (wider : Wider sourc
   update_passes o numeric l e made g f h i m =
       let x = settle s l made in
       let whole = BinaryOf (place_of x.target) o x.target e in
-      let side = settle_passes l made g (made_before z agrees x.made (assign_behind s whole x).made (settled_begins s x.target whole x.made) m) in
+      let side = settle_passes l made g (made_before z agrees x.made (assign_after s whole x).made (settled_begins s x.target whole x.made) m) in
       let fit : Codes whole = ((side.codes.0, f.0, numeric.takes (type_of x.target) (type_of e) (ap is_int side.type ∙ h) i), none_both (misplaced NoWord x.target) (misplaced NoWord e) side.codes.1 f.1, and_from _ _ side.codes.2 f.2) in
-      behind_passes l whole x side fit (ap (λ t. fits_declared C (Some t) (type_of l)) numeric.gives ∙ int_fits C (type_of l) h) m
+      after_passes l whole x side fit (ap (λ t. fits_declared C (Some t) (type_of l)) numeric.gives ∙ int_fits C (type_of l) h) m
 
   added : IsNumeric op.Add
   added = record { gives = refl; takes = λ t u h g. rw (h, g) refl }
@@ -346,7 +346,7 @@ module _ (z : Frame) (agrees : Agrees z) (source : Context) (wider : Wider sourc
 
   -- ---- `base(..)`
 
-  ready_passes : (p : Place) (t : ℕ) → Passing z (ready_behind s p t)
+  ready_passes : (p : Place) (t : ℕ) → Passing z (ready_after s p t)
   ready_passes p t = on_either (Passing z) z.written.flags.delayed [] (if has_delayed_constructor z.typed t then ReadyStmt p ∷ [] else []) refl (on_either (Passing z) (has_delayed_constructor z.typed t) (ReadyStmt p ∷ []) [] refl refl)
 
   base_passes : (p : Place) (es : Arguments) (made : List Ty) → K ≡ true → FitArguments z.typed C z.context K z.first es (param_types_in (constructor_of z.typed (above_of z.typed z.written.class))) → HasMade z (base_of s p es (above_of z.typed z.written.class) made).made → Passing z (base_of s p es (above_of z.typed z.written.class) made).code
@@ -355,8 +355,8 @@ module _ (z : Frame) (agrees : Agrees z) (source : Context) (wider : Wider sourc
       ts : List Ty
       ts = param_types_in (constructor_of z.typed (above_of z.typed z.written.class))
 
-      by : (b : Bool) → (above_of z.typed z.written.class == 0) ≡ b → HasMade z (if b then record { code = ready_behind s p (above_of z.typed z.written.class); made = made } else base_with s p (above_of z.typed z.written.class) (arguments_of s (param_types_in (constructor_of z.typed (above_of z.typed z.written.class))) es made)).made →
-          Passing z (if b then record { code = ready_behind s p (above_of z.typed z.written.class); made = made } else base_with s p (above_of z.typed z.written.class) (arguments_of s (param_types_in (constructor_of z.typed (above_of z.typed z.written.class))) es made)).code
+      by : (b : Bool) → (above_of z.typed z.written.class == 0) ≡ b → HasMade z (if b then record { code = ready_after s p (above_of z.typed z.written.class); made = made } else base_with s p (above_of z.typed z.written.class) (arguments_of s (param_types_in (constructor_of z.typed (above_of z.typed z.written.class))) es made)).made →
+          Passing z (if b then record { code = ready_after s p (above_of z.typed z.written.class); made = made } else base_with s p (above_of z.typed z.written.class) (arguments_of s (param_types_in (constructor_of z.typed (above_of z.typed z.written.class))) es made)).code
       by true i m = ready_passes p (above_of z.typed z.written.class)
       by false i m =
           let up = above_of z.typed z.written.class in
@@ -365,7 +365,7 @@ module _ (z : Frame) (agrees : Agrees z) (source : Context) (wider : Wider sourc
           let h = arguments_pass z agrees K os es us made f m in
           let n = number_of z.typed (Constructor up) in
           let call = call_is z agrees K os (callee_of z.program z.body (BaseConstructor n)) us None l.values (agrees.calls.base_constructor k i) h.1 in
-          each-append (passes z) l.code (CallStmt p None (BaseConstructor n) l.values ∷ ready_behind s p up) h.0 (and_from _ _ (and_from _ _ call refl) (ready_passes p up))
+          each-append (passes z) l.code (CallStmt p None (BaseConstructor n) l.values ∷ ready_after s p up) h.0 (and_from _ _ (and_from _ _ call refl) (ready_passes p up))
 
   -- ---- simple statements
 

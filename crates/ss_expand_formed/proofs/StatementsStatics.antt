@@ -46,7 +46,7 @@ bodies_count all k c =
     let both = length-append (map (constructor_body all k) (constructors_in c.members)) (map (method_body all k) (methods_in c.members)) in
     omega arith
 
--- in one of these classes, behind the bodies of those before it
+-- in one of these classes, after the bodies of those before it
 record IsPlaced (all : List ClassTree) (j : ℕ) (cs : List ClassTree) (n : ℕ) (b : BodyTree) : Type 0 where
   class : ℕ
   tree : ClassTree

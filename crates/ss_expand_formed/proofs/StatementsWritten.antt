@@ -69,9 +69,9 @@ module _ (block : BlockTree) where
   meant_long copy x [] = refl
   meant_long copy x (q ∷ qs) = ⊎_elim (λ yes. rw yes (ap suc (meant_long (copy + 1) (x + 1) qs))) (λ no. rw no (ap suc (meant_long copy (x + 1) qs))) (cases_Bool (block_assigns x block))
 
-meant_behind : (static : Bool) (ms : List ℕ) (i : ℕ) → slice_get ((if static then [] else 0 ∷ []) ++ ms) ((if static then 0 else 1) + i) ≡ slice_get ms i
-meant_behind true ms i = let e : 0 + i ≡ i = omega arith in ap (slice_get ms) e
-meant_behind false ms i = let e : 1 + i ≡ suc i = omega arith in ap (slice_get (0 ∷ ms)) e
+meant_after : (static : Bool) (ms : List ℕ) (i : ℕ) → slice_get ((if static then [] else 0 ∷ []) ++ ms) ((if static then 0 else 1) + i) ≡ slice_get ms i
+meant_after true ms i = let e : 0 + i ≡ i = omega arith in ap (slice_get ms) e
+meant_after false ms i = let e : 1 + i ≡ suc i = omega arith in ap (slice_get (0 ∷ ms)) e
 
 this_number : (static : Bool) (ms : List ℕ) (n : ℕ) → n < (if static then 0 else 1) → unwrap_or (slice_get ((if static then [] else 0 ∷ []) ++ ms) n) n ≡ n
 this_number true ms n l = absurd (omega arith)
@@ -194,7 +194,7 @@ module _ (c : core.CoreTree) (p : TypedTree) (b : BodyTree) (bs : List BodyTree)
       let i = n - first_param b in
       let e : first_param b + i ≡ n = omega arith in
       let size = meant_long b.block (first_copy b) (first_param b) b.params in
-      ap (λ o. unwrap_or o n) (ap (slice_get (meant b)) (sym e) ∙ meant_behind b.flags.is_static ms i ∙ slice_get_past ms i (omega arith))
+      ap (λ o. unwrap_or o n) (ap (slice_get (meant b)) (sym e) ∙ meant_after b.flags.is_static ms i ∙ slice_get_past ms i (omega arith))
 
   -- a local is meant by one of its type
   pub number_at : (n : ℕ) (t : Ty) → slice_get front n ≡ Some t → slice_get front (number (numbers b N) n) ≡ Some t
@@ -210,7 +210,7 @@ module _ (c : core.CoreTree) (p : TypedTree) (b : BodyTree) (bs : List BodyTree)
     where
       param_number : (i : ℕ) → first_param b + i ≡ n → n < first_param b + length b.params → slice_get front (number (numbers b N) n) ≡ Some t
       param_number i e l =
-          let looked : slice_get (meant b) n ≡ slice_get ms i = ap (slice_get (meant b)) (sym e) ∙ meant_behind b.flags.is_static ms i in
+          let looked : slice_get (meant b) n ≡ slice_get ms i = ap (slice_get (meant b)) (sym e) ∙ meant_after b.flags.is_static ms i in
           ⊎_elim
           (λ k.
           let is : number (numbers b N) n ≡ k.0 = k.2 in

@@ -107,9 +107,9 @@ begun_strictly m n None = refl
 begun_strictly m n (Some (DeclareFirst ds)) = declared_strictly m n ds
 begun_strictly m n (Some (SimpleFirst s)) = refl
 
-behind_strictly : (m n : May) (s : StmtTree) → behind (strictly m n) s ≡ strictly (behind m s) (behind n s)
-behind_strictly m n (DeclareOf ds) = declared_strictly m n ds
-behind_strictly m n s = refl
+after_strictly : (m n : May) (s : StmtTree) → behind (strictly m n) s ≡ strictly (behind m s) (behind n s)
+after_strictly m n (DeclareOf ds) = declared_strictly m n ds
+after_strictly m n s = refl
 
 module _ (own other : ℕ → Bool) where
   declared_strict : (m n : May) (ds : List DeclaratorTree) → declared_read own m ds ≡ true → declared_read other n ds ≡ true → misplaced_declared ds ≡ [] → declared_read own (strictly m n) ds ≡ true
@@ -208,4 +208,4 @@ module _ (own other : ℕ → Bool) where
         let also = and_parts (stmt_reads other n s) (all_read other (behind n s) ss) i in
         let words = none_left (misplaced_at s) (misplaced_along ss) j in
         and_from _ _ (stmt_strict m n s one.0 also.0 words.0)
-        (subst (λ z. all_read own z ss ≡ true) (sym (behind_strictly m n s)) (stmts_strict (behind m s) (behind n s) ss one.1 also.1 words.1))
+        (subst (λ z. all_read own z ss ≡ true) (sym (after_strictly m n s)) (stmts_strict (behind m s) (behind n s) ss one.1 also.1 words.1))

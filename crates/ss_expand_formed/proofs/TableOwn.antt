@@ -1,4 +1,4 @@
--- Behind the names of the table above stand methods of the class itself.
+-- After the names of the table above stand methods of the class itself.
 use Rattle.std.proofs.Common.{◌≡◌, ℕ, zero, suc, ◌+◌, ◌-◌, ◌*◌, ◌<◌, List, [], ◌∷◌, ◌++◌, length, map, drop, Bool, true, Option, Some, None, refl, sym, ◌∙◌, ap, subst, arith}
 use Rattle.std.specs.Prelude.{not, slice_get, filter, option_and_then, if◌then◌else◌}
 use Rattle.std.specs.List.{list_all}
@@ -67,7 +67,7 @@ module _ (p : ProgramTree) where
   listed_there : (k : ℕ) (c : ClassTree) → slice_get p.classes k ≡ Some c → (n : List ℕ) → is_listed (method_names (members_at p.classes k)) n ≡ true → is_listed (method_names c.members) n ≡ true
   listed_there k c at n h = subst (λ (o : Option ClassTree). is_listed (method_names (members_in o)) n ≡ true) at h
 
-  -- behind the entries of the table above
+  -- after the entries of the table above
   added_own : (k : ℕ) (c : ClassTree) → slice_get p.classes k ≡ Some c → (over : List core.EntryTree) → table p.classes k ≡ map (overridden p.classes k) over ++ added p.classes k over →
       (i : ℕ) (x : core.EntryTree) → slice_get (entries_from (resolved p) (4 + 2 * k) 0 (table p.classes k)) (length over + i) ≡ Some x → is_method_of (4 + 2 * k) (store.body_at (core_of p) x.body) ≡ true
   added_own k c at over is i x h =

@@ -46,7 +46,7 @@ use Rattle.ss_expand_formed.proofs.TableOwn.{have_own_methods}
 use Rattle.ss_expand_formed.proofs.TableMethods.{entries_from_is, have_table_methods}
 use Rattle.ss_expand_formed.proofs.Levels.{declared_last, declarations_step}
 use Rattle.ss_expand_formed.proofs.Apart.{table_apart}
-use Rattle.ss_expand_formed.proofs.Readings.{contract_reads, behind_params, method_reads}
+use Rattle.ss_expand_formed.proofs.Readings.{contract_reads, after_params, method_reads}
 use Rattle.ss_expand_formed.proofs.Normal.{HasContract}
 use Rattle.ss_expand_formed.proofs.Headings.{SameHeading, same_heading}
 use Rattle.ss_expand_formed.proofs.Contracts.{written_contract, wrapper_contract, this_entry, entry_is, reads_alike, stands_for}
@@ -221,7 +221,7 @@ module _ (p : ProgramTree) (faultless : program_faults p ≡ []) where
 -- ---- what a table has at the place of a method of the class above
 
 module _ (p : ProgramTree) (faultless : program_faults p ≡ []) (no_nulls : null_faults (resolved p) ≡ []) where
-  like_reads : (b : BodyTree) (xs : List BodyTree) → AreLike p b xs → list_all (contract_reads (first_param b) (behind_params b)) xs ≡ true
+  like_reads : (b : BodyTree) (xs : List BodyTree) → AreLike p b xs → list_all (contract_reads (first_param b) (after_params b)) xs ≡ true
   like_reads b [] h = refl
   like_reads b (x ∷ xs) h = let l = h 0 x refl in and_from _ _ (reads_alike x b l.0 x l.1) (like_reads b xs (λ n y e. h (suc n) y e))
 
@@ -244,18 +244,18 @@ module _ (p : ProgramTree) (faultless : program_faults p ≡ []) (no_nulls : nul
     abbrev to : NamesBody p k m x new_body before_new
     to = names_body p faultless k c at m x g n
 
-    -- what is declared for the method of the class is declared behind what is declared for that of the class above
-    declared_behind : before_new ≡ before_old ++ declared_last (declares (resolved p) m (4 + 2 * k))
-    declared_behind =
+    -- what is declared for the method of the class is declared after what is declared for that of the class above
+    declared_after : before_new ≡ before_old ++ declared_last (declares (resolved p) m (4 + 2 * k))
+    declared_after =
         sym n.declared ∙ declarations_step p faultless k m (slice_get_within p.classes k c at)
         ∙ ap (λ o. declarations (resolved p) (number_or_object o) m ++ declared_last (declares (resolved p) m (4 + 2 * k))) up
         ∙ ap (λ bs. bs ++ declared_last (declares (resolved p) m (4 + 2 * k))) i.declared
 
     stands : SameHeading new_body old_body → StandsFor from.body to.body
     stands head =
-        let read = list_all-append (contract_reads (first_param new_body) (behind_params new_body)) n.before (new_body ∷ []) ∙ rw (like_reads new_body n.before n.alike, method_reads p.classes n.class n.method) refl in
-        let read_old = all_more (contract_reads (first_param new_body) (behind_params new_body)) (contract_reads (first_param old_body) (behind_params old_body)) (λ y l. reads_alike new_body old_body head y l) before_new read in
-        stands_for from.body to.body old_body new_body from.for_class to.for_class i.before before_new (declared_last (declares (resolved p) m (4 + 2 * k))) from.contract to.contract declared_behind head refl refl read_old
+        let read = list_all-append (contract_reads (first_param new_body) (after_params new_body)) n.before (new_body ∷ []) ∙ rw (like_reads new_body n.before n.alike, method_reads p.classes n.class n.method) refl in
+        let read_old = all_more (contract_reads (first_param new_body) (after_params new_body)) (contract_reads (first_param old_body) (after_params old_body)) (λ y l. reads_alike new_body old_body head y l) before_new read in
+        stands_for from.body to.body old_body new_body from.for_class to.for_class i.before before_new (declared_last (declares (resolved p) m (4 + 2 * k))) from.contract to.contract declared_after head refl refl read_old
 
     abbrev Replaced : Type 0
     Replaced = (old new : core.EntryTree) → old.body ≡ entry_number (resolved p) (4 + 2 * j) m e.body → new.body ≡ entry_number (resolved p) (4 + 2 * k) m x.body → Replaces (4 + 2 * k) old new from.body to.body

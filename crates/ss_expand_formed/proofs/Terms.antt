@@ -40,7 +40,7 @@ use Rattle.ss_resolver_rules.specs.declared.known.Known.{Known}
 use Rattle.ss_resolver_rules.specs.declared.known.Known.TheVariants.{Variable, BoundName}
 use Rattle.ss_resolver_rules.specs.Names as env
 use Rattle.ss_resolver_rules.specs.Numbers.{type_id, class_in, method_id, table_place}
-use Rattle.ss_resolver_rules.specs.Expressions.{this, read_field, known_or_field, field_behind, state_word, third_class, member, method_call, base_call, owner_question, place_or_own, called_behind, called_bare, call, expr, args}
+use Rattle.ss_resolver_rules.specs.Expressions.{this, read_field, known_or_field, field_after, state_word, third_class, member, method_call, base_call, owner_question, place_or_own, called_after, called_bare, call, expr, args}
 use Rattle.ss_resolver_rules.specs.Programs.{one_of, modified, with_terms, modifies_in, resolved}
 use Rattle.ss_expand_rules.specs.Calls.{has_call}
 use Rattle.ss_typed.specs.Shapes.{is_this}
@@ -82,10 +82,10 @@ name_other e q n None = read_other e q (this e q) (field_of e.scope.classes e.sc
 
 member_other : (e : Env) (q : Place) (o : ExprTree) (n : List ℕ) (t : ℕ) → IsOther o → IsOther (member e q o n t)
 member_other e q o n t h =
-    on_either IsOther (is_state_read n) (typed.StateOf q (state_word n) o) (if is_array_number t then typed.LengthOf q o else field_behind e q o n (declared_place t)) refl
-    (on_either IsOther (is_array_number t) (typed.LengthOf q o) (field_behind e q o n (declared_place t)) refl (behind (declared_place t)))
+    on_either IsOther (is_state_read n) (typed.StateOf q (state_word n) o) (if is_array_number t then typed.LengthOf q o else field_after e q o n (declared_place t)) refl
+    (on_either IsOther (is_array_number t) (typed.LengthOf q o) (field_after e q o n (declared_place t)) refl (behind (declared_place t)))
   where
-    behind : (k : Option ℕ) → IsOther (field_behind e q o n k)
+    behind : (k : Option ℕ) → IsOther (field_after e q o n k)
     behind None = h
     behind (Some j) = read_other e q o (field_of e.scope.classes j n)
 
@@ -103,7 +103,7 @@ owner_other e q n es typed.NoMore = refl
 owner_other e q n es (typed.Argument a typed.NoMore) = refl
 owner_other e q n es (typed.Argument a (typed.Argument b more)) = on_either IsOther (bytes_eq n (codes "Same")) (typed.OwnersOf q SameOwner a b) (typed.OwnersOf q (OwnedAt (third_class e es)) a b) refl refl
 
-behind_other : (e : Env) (q : Place) (r : Receiver) (o : ExprTree) (n : List ℕ) (es : Arguments) (given : typed.Arguments) (c : Callee) → IsOther (called_behind e q r o n es given c)
+behind_other : (e : Env) (q : Place) (r : Receiver) (o : ExprTree) (n : List ℕ) (es : Arguments) (given : typed.Arguments) (c : Callee) → IsOther (called_after e q r o n es given c)
 behind_other e q TheBase o n es given (AMethod m) = base_other e q given m (above e.scope.classes e.scope.class)
 behind_other e q (AClass k) o n es given (AMethod m) = method_other e q k o given m
 behind_other e q (AValue t) o n es given (AMethod m) = method_other e q (place_or_own e (option_and_then declared_place (option_and_then class_of t))) o given m
@@ -185,15 +185,15 @@ module _ (p : ProgramTree) (a : At) (q : Place) (o : ExprTree) (n : List ℕ) (w
   member_read (Some ty.Null) some full has long = absurd (false≢true (sym full))
   member_read (Some (ty.Ref c m)) some full has long =
       let unread = (or_false (is_state_read n) (is_state_call n) word).0 in
-      let front : member (env_at p a) q o n c.0 ≡ (if is_array_number c.0 then typed.LengthOf q o else field_behind (env_at p a) q o n (declared_place c.0)) = rw unread refl in
+      let front : member (env_at p a) q o n c.0 ≡ (if is_array_number c.0 then typed.LengthOf q o else field_after (env_at p a) q o n (declared_place c.0)) = rw unread refl in
       ⊎_elim
       (λ array. absurd (let named : is_length n ≡ true = rw array at has in let long_too : is_length n ≡ false = rw array at long in false≢true (sym long_too ∙ named)))
       (λ object.
       let r = behind (declared_place c.0) (rw object at has) in
-      (r.0, front ∙ ap (λ z. if z then typed.LengthOf q o else field_behind (env_at p a) q o n (declared_place c.0)) object ∙ r.1))
+      (r.0, front ∙ ap (λ z. if z then typed.LengthOf q o else field_after (env_at p a) q o n (declared_place c.0)) object ∙ r.1))
       (cases_Bool (is_array_number c.0))
     where
-      behind : (k : Option ℕ) → declares p.classes n k ≡ true → IsRead (field_behind (env_at p a) q o n k)
+      behind : (k : Option ℕ) → declares p.classes n k ≡ true → IsRead (field_after (env_at p a) q o n k)
       behind None h = absurd (false≢true h)
       behind (Some j) h = (field_of p.classes j n, refl)
 

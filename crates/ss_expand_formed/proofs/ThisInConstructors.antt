@@ -15,7 +15,7 @@ use Rattle.ss_delayed_rules.specs.Program.{classes_faults, body_faults}
 use Rattle.ss_resolver_rules.specs.Programs.{param_env, resolved}
 use Rattle.ss_expand_rules.specs.Program.{field_at}
 use Rattle.ss_typed.specs.Lookups.{body_at}
-use Rattle.ss_expand_rules.specs.Constructors.{before_all, initializers, behind_initial, base_alone, with_base}
+use Rattle.ss_expand_rules.specs.Constructors.{before_all, initializers, after_initial, base_alone, with_base}
 use Rattle.ss_typed.specs.Shapes.{closing_brace, in_block, has_base}
 use Rattle.ss_expand_formed.proofs.Facts.{none_left}
 use Rattle.ss_expand_formed.proofs.Choices.{where_chosen}
@@ -97,12 +97,12 @@ module _ (q : TypedTree) (b : BodyTree) where
   abbrev last : StmtTrees
   last = Before (ReturnOf (closing_brace b.block) None) NoMore
 
-  -- its statements behind the beginnings of fields
+  -- its statements after the beginnings of fields
   abbrev pub behind_fields : StmtTrees
   behind_fields = before_all (with_base q b b.base (in_block b.block)) last
 
-  pub others_behind : NamesOthers b → Along OtherSimple Other behind_fields
-  others_behind h =
+  pub others_after : NamesOthers b → Along OtherSimple Other behind_fields
+  others_after h =
       along_before OtherSimple Other (with_base q b b.base (in_block b.block)) last
       (along_base OtherSimple Other q b b.base (in_block b.block) (λ place. h.given) (λ place. refl) (along_block OtherSimple Other b.block h.block))
       (tt, tt)
@@ -110,8 +110,8 @@ module _ (q : TypedTree) (b : BodyTree) where
   based : b.flags.delayed ≡ true → (base : Option BaseTree) (ss : StmtTrees) → uses_each ForFields (arguments_of base) ≡ [] → uses_along ForFields ss ≡ [] → uses_along ForFields (with_base q b base ss) ≡ []
   based late (Some o) ss h g = rw (h, g) refl
   based late None ss h g =
-      where_chosen (λ (xs : StmtTrees). uses_along ForFields xs ≡ []) (has_base ss) ss (if b.flags.delayed then Before (base_alone b) ss else behind_initial q b.class (base_alone b) ss) (λ yes. g)
-      (λ no. where_chosen (λ (xs : StmtTrees). uses_along ForFields xs ≡ []) b.flags.delayed (Before (base_alone b) ss) (behind_initial q b.class (base_alone b) ss) (λ yes. g) (λ other. absurd (false≢true (sym other ∙ late))))
+      where_chosen (λ (xs : StmtTrees). uses_along ForFields xs ≡ []) (has_base ss) ss (if b.flags.delayed then Before (base_alone b) ss else after_initial q b.class (base_alone b) ss) (λ yes. g)
+      (λ no. where_chosen (λ (xs : StmtTrees). uses_along ForFields xs ≡ []) b.flags.delayed (Before (base_alone b) ss) (after_initial q b.class (base_alone b) ss) (λ yes. g) (λ other. absurd (false≢true (sym other ∙ late))))
 
   pub fields_behind : b.flags.delayed ≡ true → UsesFields b → uses_along ForFields behind_fields ≡ []
   fields_behind late h = uses_before ForFields (with_base q b b.base (in_block b.block)) last (based late b.base (in_block b.block) h.given (uses_of_block ForFields b.block h.block)) refl

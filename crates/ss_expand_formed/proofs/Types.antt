@@ -26,7 +26,7 @@ use Rattle.ss_typed.proofs.ByClass.{of_members}
 use Rattle.ss_expand_rules.specs.Statements.{result_type}
 use Rattle.ss_expand_rules.specs.Contracts.{first_param, declarations}
 use Rattle.ss_paths.specs.Opening.{is_first}
-use Rattle.ss_expand_rules.specs.Constructors.{before_all, initialize, initializers_from, initializers_in, initializers, behind_initial, base_alone, with_base, constructor_stmts, implicit_constructor}
+use Rattle.ss_expand_rules.specs.Constructors.{before_all, initialize, initializers_from, initializers_in, initializers, after_initial, base_alone, with_base, constructor_stmts, implicit_constructor}
 use Rattle.ss_typed.specs.Shapes.{closing_brace, in_block, has_base}
 use Rattle.ss_expand_rules.specs.Bodies.{block_assigns, assigned_from, copy_of, copies, temporaries_from, with_return, statements, elaboration_context, temporary_types, written_body, wrapper_types}
 use Rattle.ss_store_rules.specs.Typed.{is_local}
@@ -85,17 +85,17 @@ module _ (cs : List core.ClassTree) where
     members_found (m ∷ ms) zero h = (and_parts (members_typed m) (list_all members_typed ms) h).0
     members_found (m ∷ ms) (suc i) h = members_found ms i (and_parts (members_typed m) (list_all members_typed ms) h).1
 
-    behind_typed : (t : ℕ) (s : StmtTree) (ss : StmtTrees) → stmt_typed cs s ≡ true → all_typed cs ss ≡ true → all_typed cs (behind_initial p t s ss) ≡ true
-    behind_typed t s NoMore h g = and_from _ _ h refl
-    behind_typed t s (Before x xs) h g =
+    after_typed : (t : ℕ) (s : StmtTree) (ss : StmtTrees) → stmt_typed cs s ≡ true → all_typed cs ss ≡ true → all_typed cs (after_initial p t s ss) ≡ true
+    after_typed t s NoMore h g = and_from _ _ h refl
+    after_typed t s (Before x xs) h g =
         let both = and_parts (stmt_typed cs x) (all_typed cs xs) g in
-        on_either (λ (z : StmtTrees). all_typed cs z ≡ true) (is_first p t x) (Before x (behind_initial p t s xs)) (Before s (Before x xs)) (and_from _ _ both.0 (behind_typed t s xs h both.1)) (and_from _ _ h g)
+        on_either (λ (z : StmtTrees). all_typed cs z ≡ true) (is_first p t x) (Before x (after_initial p t s xs)) (Before s (Before x xs)) (and_from _ _ both.0 (after_typed t s xs h both.1)) (and_from _ _ h g)
 
     with_base_typed : (b : BodyTree) (base : Option BaseTree) → base_typed base ≡ true → (ss : StmtTrees) → all_typed cs ss ≡ true → all_typed cs (with_base p b base ss) ≡ true
     with_base_typed b (Some base) g ss h = and_from _ _ g h
     with_base_typed b None g ss h =
-        on_either (λ (z : StmtTrees). all_typed cs z ≡ true) (has_base ss) ss (if b.flags.delayed then Before (base_alone b) ss else behind_initial p b.class (base_alone b) ss) h
-        (on_either (λ (z : StmtTrees). all_typed cs z ≡ true) b.flags.delayed (Before (base_alone b) ss) (behind_initial p b.class (base_alone b) ss) h (behind_typed b.class (base_alone b) ss refl h))
+        on_either (λ (z : StmtTrees). all_typed cs z ≡ true) (has_base ss) ss (if b.flags.delayed then Before (base_alone b) ss else after_initial p b.class (base_alone b) ss) h
+        (on_either (λ (z : StmtTrees). all_typed cs z ≡ true) b.flags.delayed (Before (base_alone b) ss) (after_initial p b.class (base_alone b) ss) h (after_typed b.class (base_alone b) ss refl h))
 
     with_return_typed : (b : BodyTree) (r : Option Ty) (ss : StmtTrees) → all_typed cs ss ≡ true → all_typed cs (with_return b r ss) ≡ true
     with_return_typed b None ss h = typed-append ss (Before (ReturnOf (closing_brace b.block) None) NoMore) h refl

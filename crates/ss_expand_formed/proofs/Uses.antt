@@ -25,7 +25,7 @@ abbrev pub is_other : ℕ → Bool
 is_other x = not (x == 0)
 
 -- another local than `this` is meant by another one, and the result, the temporaries and the bound names are others
-pub record IsBehindThis (ns : Numbers) : Type 0 where
+pub record IsAfterThis (ns : Numbers) : Type 0 where
   pub means : (x : ℕ) → is_other x ≡ true → is_other (number ns x) ≡ true
   pub outcome : 0 < ns.outcome
   pub bound : 0 < ns.first_bound
@@ -78,7 +78,7 @@ this_plain ns e h = absurd (false≢true h)
 
 -- ---- expressions without calls
 
-module _ (ns : Numbers) (n : IsBehindThis ns) where
+module _ (ns : Numbers) (n : IsAfterThis ns) where
   without : (e : ExprTree) → uses NotAtAll e ≡ [] → locals_pass is_other e ≡ true → is_without_this (plain ns e) ≡ true
   without (ThisOf p t) h g = absurd (let z : ⊥ = cc in z)
   without (LocalOf p x t) h g = n.means x g
@@ -218,7 +218,7 @@ if_behaves NotAtAll t p e a b h = and_from _ _ (and_from _ _ h refl) refl
 no_base : (u : Use) (p : Place) (m : ℕ) (t : Option Ty) (es : Arguments) → Fine u (BaseOf p m t es) → ⊥
 no_base u p m t es h = let e : p ∷ uses_each u es ≡ [] = h.unused in cc
 
-pub fine_keeps : (u : Use) (t : ℕ) (ns : Numbers) → IsBehindThis ns → Keeps ns (Fine u) (AreFine u) (stays u) (behaves u t)
+pub fine_keeps : (u : Use) (t : ℕ) (ns : Numbers) → IsAfterThis ns → Keeps ns (Fine u) (AreFine u) (stays u) (behaves u t)
 fine_keeps u t ns n = record {
   iff_parts = λ p a b h. two_fine u a b h.unused h.locals;
   implies_parts = λ p a b h. two_fine u a b h.unused h.locals;

@@ -25,7 +25,7 @@ use Rattle.ss_expand_rules.specs.Program.{field_at, above_of, Constructor, numbe
 use Rattle.ss_typed.specs.Lookups.{constructor_of, param_types_in}
 use Rattle.ss_expand_rules.specs.Code.{Coded, nothing, then_code}
 use Rattle.ss_expand_rules.specs.Lifting.{Opened, ElaborationContext, Source, Pure, Created, CreatedArray, Called, put, Lifted, Valued, Listed, unlifted, next, temporary_type, any_object, in_local, in_temporary, valued_from, valued, lifted_of, operand, unary, binary, lazily, holds, fails, negated, operation, implication, first_type, other_types, no_operands, operands_of, and_operands, only_of, dispatched, static_class, types_of_constructor, types_of_written, types_of_method, lifted, in_temporaries, right_side, value, arguments_of}
-use Rattle.ss_expand_rules.specs.Simple.{default_of, into_local, write_of, write, write_value, assign_settled, Settled, settle_lifted, settle_part, settle, assign_behind, assign, update, assignment, step_operator, declared_as, declare, drop_result, print, has_delayed_constructor, ready_behind, base_with, base_of, simple}
+use Rattle.ss_expand_rules.specs.Simple.{default_of, into_local, write_of, write, write_value, assign_settled, Settled, settle_lifted, settle_part, settle, assign_after, assign, update, assignment, step_operator, declared_as, declare, drop_result, print, has_delayed_constructor, ready_after, base_with, base_of, simple}
 use Rattle.ss_expand_rules.specs.Ends.{can_end, block_can_end}
 use Rattle.ss_expand_rules.specs.Statements.{loop_while, begin, advance, pack_this, packs, leave_with, result_type, kept_result, leave_value, leave, exposed_class, within, close, opened, expose_lifted, stmt, block, stmts}
 use Rattle.ss_store_rules.specs.Locals.{is_bound}
@@ -35,7 +35,7 @@ use Rattle.ss_expand_formed.proofs.Flows.{Known, More, same, further, sources, R
 use Rattle.ss_expand_formed.proofs.AssignedReading.{May, reads, read_all, may_read, with_local, with_declared, declared_read, simple_reads, begin_reads, with_begun, step_reads, behind, stmt_reads, block_reads, all_read, Wider, as_wide, wider_still, wider_local, reads_wider}
 
 module _ (y : core.BodyTree) (own : ℕ → Bool) where
-  -- temporaries and the locals that the body declares keep their numbers, and behind all locals stand the names of quantifiers
+  -- temporaries and the locals that the body declares keep their numbers, and after all locals stand the names of quantifiers
   pub record Fits (ns : Numbers) : Type 0 where
     pub temporaries : (x : ℕ) → ns.first_temporary ≤ x → number ns x ≡ x
     pub declared : (x : ℕ) → own x ≡ true → number ns x ≡ x
@@ -400,9 +400,9 @@ module _ (y : core.BodyTree) (own : ℕ → Bool) where
 
   -- ---- assignments
 
-  assign_behind_reads : (s : ElaborationContext) → Fits s.numbers → (m : May) (e : ExprTree) (t : Settled) (k : Known) →
-      ((n : May) → Wider m n → reads n t.target ≡ true → reads n e ≡ true) → Flows y k t.code (Targets s m k t.target) → Flows y k (assign_behind s e t).code (More k)
-  assign_behind_reads s fits m e t k r h =
+  assign_after_reads : (s : ElaborationContext) → Fits s.numbers → (m : May) (e : ExprTree) (t : Settled) (k : Known) →
+      ((n : May) → Wider m n → reads n t.target ≡ true → reads n e ≡ true) → Flows y k t.code (Targets s m k t.target) → Flows y k (assign_after s e t).code (More k)
+  assign_after_reads s fits m e t k r h =
       join y k (Targets s m k t.target) (More k) t.code (assign_settled s t.target e t.made).code h
       (λ a i.
       weaken y a (More a) (More k) (assign_settled s t.target e t.made).code (λ b j. further k a b i.more j)
@@ -410,14 +410,14 @@ module _ (y : core.BodyTree) (own : ℕ → Bool) where
 
   assign_reads : (s : ElaborationContext) → Fits s.numbers → (m : May) (target e : ExprTree) → reads m target ≡ true → reads m e ≡ true → Codes s m (assign s target e)
   assign_reads s fits m target e q r made k kn =
-      on_either (λ (c : Coded). Flows y k c.code (More k)) (has_call target || has_call e) (assign_behind s e (settle s target made)) (assign_settled s target e made)
-      (assign_behind_reads s fits m e (settle s target made) k (λ n w i. reads_wider m n w e r) (settle_reads s fits m target q made k kn))
+      on_either (λ (c : Coded). Flows y k c.code (More k)) (has_call target || has_call e) (assign_after s e (settle s target made)) (assign_settled s target e made)
+      (assign_after_reads s fits m e (settle s target made) k (λ n w i. reads_wider m n w e r) (settle_reads s fits m target q made k kn))
       (assign_settled_reads s fits m target e q r made k kn)
 
   update_reads : (s : ElaborationContext) → Fits s.numbers → (m : May) (o : Operator) (target e : ExprTree) → reads m target ≡ true → reads m e ≡ true → Codes s m (update s o target e)
   update_reads s fits m o target e q r made k kn =
       let t = settle s target made in
-      assign_behind_reads s fits m (BinaryOf (place_of t.target) o t.target e) t k (λ n w i. and_from _ _ i (reads_wider m n w e r)) (settle_reads s fits m target q made k kn)
+      assign_after_reads s fits m (BinaryOf (place_of t.target) o t.target e) t k (λ n w i. and_from _ _ i (reads_wider m n w e r)) (settle_reads s fits m target q made k kn)
 
   assignment_reads : (s : ElaborationContext) → Fits s.numbers → (m : May) (target : ExprTree) (o : AssignOperator) (e : ExprTree) → reads m target ≡ true → reads m e ≡ true → Codes s m (assignment s target o e)
   assignment_reads s fits m target operator.Set e q r made k kn = assign_reads s fits m target e q r made k kn
@@ -427,7 +427,7 @@ module _ (y : core.BodyTree) (own : ℕ → Bool) where
 
   -- ---- declarations
 
-  -- more is assigned behind a statement, and so are the locals that it leaves in scope
+  -- more is assigned after a statement, and so are the locals that it leaves in scope
   pub record Leads (s : ElaborationContext) (m : May) (k l : Known) : Type 0 where
     pub more : More k l
     pub knows : KnowsIn s m l
@@ -485,7 +485,7 @@ module _ (y : core.BodyTree) (own : ℕ → Bool) where
       let v = value s e made in
       then_step k v.code v.value (PrintStmt p (Some v.value) line) (λ l i. more_step y l (PrintStmt p (Some v.value) line) refl (and_from _ _ i refl)) (value_reads s fits m e r made k kn)
 
-  ready_reads : (s : ElaborationContext) (p : Place) (t : ℕ) (k : Known) → Flows y k (ready_behind s p t) (More k)
+  ready_reads : (s : ElaborationContext) (p : Place) (t : ℕ) (k : Known) → Flows y k (ready_after s p t) (More k)
   ready_reads s p t k =
       on_either (λ (c : Code). Flows y k c (More k)) s.body.flags.delayed [] (if has_delayed_constructor s.program t then ReadyStmt p ∷ [] else []) (empty y k (More k) (same k))
       (on_either (λ (c : Code). Flows y k c (More k)) (has_delayed_constructor s.program t) (ReadyStmt p ∷ []) [] (more_step y k (ReadyStmt p) refl refl) (empty y k (More k) (same k)))
@@ -495,10 +495,10 @@ module _ (y : core.BodyTree) (own : ℕ → Bool) where
       let ts = param_types_in (constructor_of s.program t) in
       let l = arguments_of s ts es made in
       let call = CallStmt p None (BaseConstructor (number_of s.program (Constructor t))) l.values in
-      on_either (λ (c : Coded). Flows y k c.code (More k)) (t == 0) (record { code = ready_behind s p t; made = made }) (base_with s p t l)
+      on_either (λ (c : Coded). Flows y k c.code (More k)) (t == 0) (record { code = ready_after s p t; made = made }) (base_with s p t l)
       (ready_reads s p t k)
-      (join y k (GivesAll k l.values) (More k) l.code (call ∷ ready_behind s p t) (operands_read s fits m es r (in_temporaries s ts es) (in_temporaries_read s fits m ts es r) made k kn)
-      (λ a i. weaken y a (More a) (More k) (call ∷ ready_behind s p t) (λ b j. further k a b i.more j) (more_join y a (call ∷ []) (ready_behind s p t) (more_step y a call refl i.reads) (λ b j. ready_reads s p t b))))
+      (join y k (GivesAll k l.values) (More k) l.code (call ∷ ready_after s p t) (operands_read s fits m es r (in_temporaries s ts es) (in_temporaries_read s fits m ts es r) made k kn)
+      (λ a i. weaken y a (More a) (More k) (call ∷ ready_after s p t) (λ b j. further k a b i.more j) (more_join y a (call ∷ []) (ready_after s p t) (more_step y a call refl i.reads) (λ b j. ready_reads s p t b))))
 
   simple_read : (s : ElaborationContext) → Fits s.numbers → (m : May) (x : SimpleTree) → simple_reads m x ≡ true → Codes s m (simple s x)
   simple_read s fits m (AssignOf target o e) r made k kn = let both = and_parts (reads m target) (reads m e) r in assignment_reads s fits m target o e both.0 both.1 made k kn
@@ -608,7 +608,7 @@ module _ (y : core.BodyTree) (own : ℕ → Bool) where
       (branch y a p v.value one.code other.code i.reads (f a there) (g a there)))
 
   mutual
-    -- what a statement leaves in scope is assigned behind it
+    -- what a statement leaves in scope is assigned after it
     pub stmt_read : (s : ElaborationContext) → Fits s.numbers → (m : May) (x : StmtTree) → stmt_reads own m x ≡ true → (made : List Ty) (k : Known) → KnowsIn s m k → Flows y k (stmt s x made).code (Leads s (behind m x) k)
     stmt_read s fits m (InBlock b) r made k kn = leads s m k (block s b made).code kn (block_read s fits m b r made k kn)
     stmt_read s fits m (DeclareOf ds) r made k kn = declare_reads s fits m ds r made k kn

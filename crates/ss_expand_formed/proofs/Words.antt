@@ -1,4 +1,4 @@
--- Behind `Console` and `Owner` stand words that are known there, where names have no fault.
+-- After `Console` and `Owner` stand words that are known there, where names have no fault.
 use Rattle.std.proofs.Common.{◌≡◌, ℕ, zero, suc, List, [], ◌++◌, Bool, true, false, Option, Some, None, refl, ◌∙◌, ap}
 use Rattle.std.specs.Prelude.{◌&&◌, is_some, if◌then◌else◌}
 use Rattle.std.proofs.lemmas.Bool.{and_from}
@@ -10,7 +10,7 @@ use Rattle.ss_tables.specs.Classes.{class_named}
 use Rattle.ss_tables.specs.Scopes.{Scope, local_named, within_quantifier}
 use Rattle.ss_tables.specs.Statics.{Receiver, TheConsole, TheOwner, TheBase, AClass, AValue, AWord, NoCallee, is_member, may_have_levels, level_callee, class_or_value, receiver, static}
 use Rattle.ss_resolver_names_rules.specs.Faults.{Faults, unless, unknown, class_faults, type_faults, type_name_faults}
-use Rattle.ss_resolver_names_rules.specs.Expressions.{read_faults, before_dot, called_faults, callee_faults, class_argument, class_named_by, argument_faults, behind_argument, expr_faults, arguments_faults}
+use Rattle.ss_resolver_names_rules.specs.Expressions.{read_faults, before_dot, called_faults, callee_faults, class_argument, class_named_by, argument_faults, after_argument, expr_faults, arguments_faults}
 use Rattle.ss_expand_formed.proofs.Facts.{none_left}
 
 -- ---- what stands before a dot
@@ -151,5 +151,5 @@ mutual
   pub args_called : (s : Scope) (which : Option ℕ) (es : Arguments) → arguments_faults s which es ≡ [] → args_words s es ≡ true
   args_called s which NoMore h = refl
   args_called s which (Argument e es) h =
-      let both = none_left (argument_faults s which e (expr_faults s e)) (arguments_faults s (behind_argument which) es) h in
-      and_from _ _ (argument_fine s which e (words_called s e) both.0) (args_called s (behind_argument which) es both.1)
+      let both = none_left (argument_faults s which e (expr_faults s e)) (arguments_faults s (after_argument which) es) h in
+      and_from _ _ (argument_fine s which e (words_called s e) both.0) (args_called s (after_argument which) es both.1)

@@ -28,7 +28,7 @@ use Rattle.ss_expand_rules.specs.Simple.{has_delayed_constructor}
 use Rattle.ss_expand_rules.specs.Bodies.{copying, temporary_count, written_body}
 use Rattle.ss_store_rules.specs.Locals.{each}
 use Rattle.ss_store_rules.specs.Construction as store
-use Rattle.ss_store_rules.specs.Construction.{only_writes_this, behind_opening, has_base_without_this, if_undelayed, writes_this_first}
+use Rattle.ss_store_rules.specs.Construction.{only_writes_this, after_opening, has_base_without_this, if_undelayed, writes_this_first}
 use Rattle.ss_expand_formed.specs.Laws.{core_of}
 use Rattle.ss_expand_formed.proofs.Facts.{none_left}
 use Rattle.ss_expand_formed.proofs.Bodies.{IsMade, WrittenConstructor, ImplicitConstructor, WrittenMethod, Wrapper, origin_of}
@@ -50,7 +50,7 @@ use Rattle.ss_expand_formed.proofs.BeginsInOrder.{front_has_none, rest_has_none}
 use Rattle.ss_expand_formed.proofs.Beginnings.{opening_is}
 use Rattle.ss_expand_formed.proofs.Uses.{Fine, AreFine, stays, fine_keeps}
 use Rattle.ss_expand_formed.proofs.ReadLocals.{Other, Others, OtherSimple, block_other}
-use Rattle.ss_expand_formed.proofs.Fine.{FineSimple, stmts_fine, behind_this}
+use Rattle.ss_expand_formed.proofs.Fine.{FineSimple, stmts_fine, after_this}
 use Rattle.ss_expand_formed.proofs.Keeping.{along_before, no_escapes, body_none, initializers_fine, copies_behave, params_inside, base_other}
 
 -- ---- the beginning of a block
@@ -119,7 +119,7 @@ module _ (p : TypedTree) (b : BodyTree) (static : b.flags.is_static ≡ false) (
   front_only_writes =
       let t = b.class in
       let z = s p b r in
-      let keeps = fine_keeps NotAtAll t z.numbers (behind_this b static (temporary_count p b)) in
+      let keeps = fine_keeps NotAtAll t z.numbers (after_this b static (temporary_count p b)) in
       let writes = all_own_run (Fine NotAtAll) (AreFine NotAtAll) (stays NotAtAll) (only_writes_this t) z keeps t (λ q v f m e h. and_from _ _ (or_left (t == t) _ (eq-eqb t t refl)) h) r.front [] r.own (fine_assign p t r.front r.own fine) in
       let lifts = where_chosen (λ (xs : Code). each (only_writes_this t) (code_of xs) ≡ true) (above p b r == 0) [] (given z (above p b r) r.given (before p b r).made).code (λ yes. refl) (λ other. (arguments_fit (Fine NotAtAll) (AreFine NotAtAll) (stays NotAtAll) (only_writes_this t) z keeps _ r.given (before p b r).made args).0) in
       each-append (only_writes_this t) (copying b) ((before p b r).code ++ lifted_given z (above p b r) r.given (before p b r).made) (copies_behave p b static NotAtAll)
@@ -128,10 +128,10 @@ module _ (p : TypedTree) (b : BodyTree) (static : b.flags.is_static ≡ false) (
   values_without : list_all store.is_without_this (values p b r) ≡ true
   values_without =
       let z = s p b r in
-      let keeps = fine_keeps NotAtAll b.class z.numbers (behind_this b static (temporary_count p b)) in
+      let keeps = fine_keeps NotAtAll b.class z.numbers (after_this b static (temporary_count p b)) in
       (arguments_fit (Fine NotAtAll) (AreFine NotAtAll) (stays NotAtAll) (only_writes_this b.class) z keeps _ r.given (before p b r).made args).1
 
-first_from : (y : core.BodyTree) (xs ys : core.CodeTree) → store.opening y.code ≡ xs → behind_opening y.code ≡ ys → each (only_writes_this y.class) xs ≡ true → has_base_without_this ys ≡ true → writes_this_first y ≡ true
+first_from : (y : core.BodyTree) (xs ys : core.CodeTree) → store.opening y.code ≡ xs → after_opening y.code ≡ ys → each (only_writes_this y.class) xs ≡ true → has_base_without_this ys ≡ true → writes_this_first y ≡ true
 first_from y xs ys e f h g = rw (e, f) (and_from _ _ h g)
 
 -- one of the two is wanted
@@ -150,7 +150,7 @@ written_first p b bs c early object fine args =
     let base = calls (s p b r) (above p b r) in
     let ready = readies (s p b r) (above p b r) in
     let whole = xs ++ (base_where base r.place (number p b r) (values p b r) ++ (ready_where ready r.place ++ rest p b r)) in
-    first_from (written_body p b bs) (code_of xs) (behind_opening (code_of whole)) (opening_is p b c w) (ap (λ (ys : Code). behind_opening (code_of ys)) (code_is p b r c.ctor c.result)) (front_only_writes p b c.static r fine args)
+    first_from (written_body p b bs) (code_of xs) (after_opening (code_of whole)) (opening_is p b c w) (ap (λ (ys : Code). after_opening (code_of ys)) (code_is p b r c.ctor c.result)) (front_only_writes p b c.static r fine args)
     (arguments_are_without xs (rest p b r) r.place (number p b r) (values p b r) (front_has_none p b r) (rest_has_none p b r) base ready (values_without p b c.static r fine args))
 
 -- ---- bodies

@@ -27,7 +27,7 @@ use Rattle.ss_resolver_rules.specs.declared.known.Known.{Known}
 use Rattle.ss_resolver_rules.specs.declared.known.Known.TheVariants.{Variable, BoundName}
 use Rattle.ss_tables.specs.Named.{named_in, named_among, with_named}
 use Rattle.ss_resolver_rules.specs.Numbers.{number_or_object, class_id, type_id, class_in, array_class, method_id, table_place}
-use Rattle.ss_resolver_rules.specs.Expressions.{this, read_field, known_or_field, field_behind, state_word, third_class, member, method_call, base_call, owner_question, place_or_own, call_of, question, called_behind, called_bare, expr, call, args}
+use Rattle.ss_resolver_rules.specs.Expressions.{this, read_field, known_or_field, field_after, state_word, third_class, member, method_call, base_call, owner_question, place_or_own, call_of, question, called_after, called_bare, expr, call, args}
 use Rattle.ss_resolver_rules.specs.Statements.{declared_in_block, declared_in, past, behind, declarators, is_line, printed, print, call_alone, alone, simple, first, behind_first, block, stmt, stmts}
 use Rattle.ss_resolver_rules.specs.Statements as rules
 use Rattle.ss_expand_formed.specs.Laws.{core_of}
@@ -150,14 +150,14 @@ module _ (p : ProgramTree) where
   name_ok e h q x (Some (BoundName k)) g = refl
   name_ok e h q x None g = field_ok e h q (this e q) (field_of e.scope.classes e.scope.class x) (this_ok e h q)
 
-  behind_ok : (e : Env) → Fits e → (q : Place) (o : ExprTree) (x : List ℕ) (k : Option ℕ) → Ok o → Ok (field_behind e q o x k)
-  behind_ok e h q o x None g = g
-  behind_ok e h q o x (Some k) g = field_ok e h q o (field_of e.scope.classes k x) g
+  after_ok : (e : Env) → Fits e → (q : Place) (o : ExprTree) (x : List ℕ) (k : Option ℕ) → Ok o → Ok (field_after e q o x k)
+  after_ok e h q o x None g = g
+  after_ok e h q o x (Some k) g = field_ok e h q o (field_of e.scope.classes k x) g
 
   member_ok : (e : Env) → Fits e → (q : Place) (o : ExprTree) (x : List ℕ) (t : ℕ) → Ok o → Ok (member e q o x t)
   member_ok e h q o x t g =
-      on_either Ok (is_state_read x) (StateOf q (state_word x) o) (if is_array_number t then LengthOf q o else field_behind e q o x (declared_place t)) g
-      (on_either Ok (is_array_number t) (LengthOf q o) (field_behind e q o x (declared_place t)) g (behind_ok e h q o x (declared_place t) g))
+      on_either Ok (is_state_read x) (StateOf q (state_word x) o) (if is_array_number t then LengthOf q o else field_after e q o x (declared_place t)) g
+      (on_either Ok (is_array_number t) (LengthOf q o) (field_after e q o x (declared_place t)) g (after_ok e h q o x (declared_place t) g))
 
   -- ---- calls
 
@@ -193,7 +193,7 @@ module _ (p : ProgramTree) where
   question_ok e q (AValue t) o x es given g i = g
   question_ok e q TheConsole o x es given g i = refl
 
-  called_ok : (e : Env) → Fits e → (q : Place) (r : Receiver) (o : ExprTree) (x : List ℕ) (es : text.Arguments) (given : Arguments) (c : Callee) → Ok o → have_types C given ≡ true → Ok (called_behind e q r o x es given c)
+  called_ok : (e : Env) → Fits e → (q : Place) (r : Receiver) (o : ExprTree) (x : List ℕ) (es : text.Arguments) (given : Arguments) (c : Callee) → Ok o → have_types C given ≡ true → Ok (called_after e q r o x es given c)
   called_ok e h q r o x es given (AMethod m) g i = call_ok e h q r o given m g i
   called_ok e h q r o x es given (AWord k) g i = question_ok e q r o x es given g i
   called_ok e h q r o x es given (APrint is_line) g i = refl
@@ -313,19 +313,19 @@ module _ (p : ProgramTree) where
   first_fits e h (Some (written.DeclareFirst d)) = all_fit e h d.ty d.declarators
   first_fits e h (Some (written.SimpleFirst x)) = h
 
-  behind_fits : (e : Env) → Fits e → (x : written.StmtTree) → Fits (behind e x)
-  behind_fits e h (written.DeclareOf d) = all_fit e h d.ty d.declarators
-  behind_fits e h (written.InBlock b) = past_fits e _ h
-  behind_fits e h (written.SimpleOf x) = h
-  behind_fits e h (written.IfOf q c a) = past_fits e _ h
-  behind_fits e h (written.IfElseOf q c a b) = past_fits e _ h
-  behind_fits e h (written.WhileOf q c es a) = past_fits e _ h
-  behind_fits e h (written.ForOf q i c x es a) = past_fits e _ h
-  behind_fits e h (written.ReturnOf q c) = h
-  behind_fits e h (written.AssertOf q c) = h
-  behind_fits e h (written.AssumeOf q c) = h
-  behind_fits e h (written.ExposeOf q c n b) = past_fits e _ h
-  behind_fits e h (written.EmptyOf q) = h
+  after_fits : (e : Env) → Fits e → (x : written.StmtTree) → Fits (behind e x)
+  after_fits e h (written.DeclareOf d) = all_fit e h d.ty d.declarators
+  after_fits e h (written.InBlock b) = past_fits e _ h
+  after_fits e h (written.SimpleOf x) = h
+  after_fits e h (written.IfOf q c a) = past_fits e _ h
+  after_fits e h (written.IfElseOf q c a b) = past_fits e _ h
+  after_fits e h (written.WhileOf q c es a) = past_fits e _ h
+  after_fits e h (written.ForOf q i c x es a) = past_fits e _ h
+  after_fits e h (written.ReturnOf q c) = h
+  after_fits e h (written.AssertOf q c) = h
+  after_fits e h (written.AssumeOf q c) = h
+  after_fits e h (written.ExposeOf q c n b) = past_fits e _ h
+  after_fits e h (written.EmptyOf q) = h
 
   -- ---- statements
 
@@ -361,4 +361,4 @@ module _ (p : ProgramTree) where
 
     stmts_ok : (e : Env) → Fits e → (ss : written.StmtTrees) → all_typed C (stmts e ss) ≡ true
     stmts_ok e h written.NoMore = refl
-    stmts_ok e h (written.Before x xs) = and_from _ _ (stmt_ok e h x) (stmts_ok (behind e x) (behind_fits e h x) xs)
+    stmts_ok e h (written.Before x xs) = and_from _ _ (stmt_ok e h x) (stmts_ok (behind e x) (after_fits e h x) xs)

@@ -5,7 +5,7 @@ use Rattle.ss_store_rules.specs.Locals.{each}
 use Rattle.ss_store_rules.specs.Construction.{starts_in_order, has_opening, if_delayed, keeps_this_in, if_undelayed, writes_this_first}
 use Rattle.ss_expand_formed.specs.Laws.{OfEach}
 
--- `base(..)` and `ready this` stand once each where they are wanted, the second directly behind the first
+-- `base(..)` and `ready this` stand once each where they are wanted, the second directly after the first
 abbrev pub StartInOrder : CoreTree → Type 0
 StartInOrder c = OfEach c (λ b. starts_in_order c b ≡ true)
 

@@ -122,7 +122,7 @@ pub record Agrees (z : Frame) : Type 0 where
   pub apart : (x y : ℕ) → z.locals x ≡ true → z.locals y ≡ true → number z.numbers x ≡ number z.numbers y → x ≡ y
   pub past : (x : ℕ) → z.numbers.first_temporary ≤ x → number z.numbers x ≡ x
   -- no temporary of a constructor is `this`
-  pub behind_this : z.body.flags.ctor ≡ true → 0 < z.numbers.first_temporary
+  pub after_this : z.body.flags.ctor ≡ true → 0 < z.numbers.first_temporary
 
 -- what the constructor of the class above gives its values
 pub record Builds (z : Frame) : Type 0 where

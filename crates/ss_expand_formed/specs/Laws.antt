@@ -70,7 +70,7 @@ HaveTableMethods c = (t : ℕ) → is_declared c.classes t ≡ true → list_all
 abbrev pub HaveTableNames : CoreTree → Type 0
 HaveTableNames c = (t : ℕ) → is_declared c.classes t ≡ true → map (λ e. e.name) (take (length (table_above c t)) (table c.classes t)) ≡ map (λ e. e.name) (table_above c t)
 
--- behind them stand methods of the class itself
+-- after them stand methods of the class itself
 abbrev pub HaveOwnMethods : CoreTree → Type 0
 HaveOwnMethods c = (t : ℕ) → is_declared c.classes t ≡ true → list_all (λ e. is_method_of t (body_at c e.body)) (drop (length (table_above c t)) (table c.classes t)) ≡ true
 

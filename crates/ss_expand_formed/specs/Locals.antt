@@ -20,7 +20,7 @@ NameOpenExposes c = OfEach c (λ b. names_its_exposes b ≡ true)
 abbrev pub PackAtReturns : CoreTree → Type 0
 PackAtReturns c = OfEach c (λ b. if_delayed b (packs_at_returns b.class b.code) ≡ true)
 
--- of a body that elaborates b, the result stands where its code means it, and its bound names stand behind all its locals
+-- of a body that elaborates b, the result stands where its code means it, and its bound names stand after all its locals
 pub record HasNumbers (p : TypedTree) (b : BodyTree) (bs : List BodyTree) : Type 0 where
   pub outcome : result_number (written_body p b bs) ≡ (numbers b (temporary_count p b)).outcome
   pub bound : length (local_types (written_body p b bs)) ≡ (numbers b (temporary_count p b)).first_bound

@@ -9,7 +9,7 @@ ghost use Rattle.ss_delayed_rules.specs.Program.{construction_faults};
 ghost use Rattle.ss_expand_formed.specs.Laws.{core_of};
 ghost use Rattle.ss_expand_formed.specs.Construction.{StartInOrder, HaveOpening, KeepThisIn, WriteThisFirst};
 
-/// `base(..)` and `ready this` stand once each where they are wanted, among the outermost statements and the second directly behind the first.
+/// `base(..)` and `ready this` stand once each where they are wanted, among the outermost statements and the second directly after the first.
 pub fn start_in_order()
     ensures { (p : ProgramTree) → program_faults p ≡ [] → type_faults p ≡ [] → StartInOrder (core_of p) }
 {}

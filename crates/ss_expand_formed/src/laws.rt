@@ -58,7 +58,7 @@ pub fn have_table_names()
     ensures { (p : ProgramTree) → program_faults p ≡ [] → HaveTableNames (core_of p) }
 {}
 
-/// Behind the names of the table above stand methods of the class itself.
+/// After the names of the table above stand methods of the class itself.
 pub fn have_own_methods()
     ensures { (p : ProgramTree) → program_faults p ≡ [] → HaveOwnMethods (core_of p) }
 {}

@@ -1,4 +1,4 @@
--- What stands behind the beginning of a chain or a path is smaller than the whole.
+-- What stands after the beginning of a chain or a path is smaller than the whole.
 use Rattle.std.proofs.Common.{◌≡◌, ◌<◌, ◌≤◌, ℕ, zero, suc, List, [], ◌∷◌, Vec, Box, Global, drop, ap, arith}
 use Rattle.ss_core.specs.declared.names.Place.{Place}
 use Rattle.ss_typed.specs.declared.expr.TypedExpr.{TypedExpr}
@@ -11,18 +11,18 @@ use Rattle.ss_typed.proofs.expr.TypedLink.TheLaws as link_laws
 use Rattle.ss_typed.proofs.expr.TypedStep.TheLaws as step_laws
 use denote.Param.Weighed.{most}
 
-most_behind : {X : Type 0} (w : X → ℕ) (xs : List X) (n : ℕ) → most w (drop n xs) ≤ most w xs
-most_behind w [] zero = omega arith
-most_behind w [] (suc n) = omega arith
-most_behind w (x ∷ xs) zero = omega arith
-most_behind w (x ∷ xs) (suc n) = let h : most w (drop n xs) ≤ most w xs = most_behind w xs n in omega arith
+most_after : {X : Type 0} (w : X → ℕ) (xs : List X) (n : ℕ) → most w (drop n xs) ≤ most w xs
+most_after w [] zero = omega arith
+most_after w [] (suc n) = omega arith
+most_after w (x ∷ xs) zero = omega arith
+most_after w (x ∷ xs) (suc n) = let h : most w (drop n xs) ≤ most w xs = most_after w xs n in omega arith
 
 pub links_fall : (p : Place) (first : Box TypedExpr Global) (links : Vec TypedLink Global) (e : TypedExpr) (ls rest : List TypedLink) (n : ℕ)
     → e ≡ view.Chain p first links → ls ≡ links.items → rest ≡ drop n ls → most (λ (x : TypedLink). link_laws.the_size x) rest < expr_laws.the_size e
 links_fall p first links e ls rest n is ls_is rest_is =
     let w : TypedLink → ℕ = λ x. link_laws.the_size x in
     let all : most w ls < expr_laws.the_size e = all_links_fall p first links e ls is ls_is in
-    let behind : most w (drop n ls) ≤ most w ls = most_behind w ls n in
+    let behind : most w (drop n ls) ≤ most w ls = most_after w ls n in
     let same : most w rest ≡ most w (drop n ls) = ap (most w) rest_is in
     omega arith
 
@@ -31,6 +31,6 @@ pub steps_fall : (p : Place) (first : Box TypedExpr Global) (steps : Vec TypedSt
 steps_fall p first steps e ls rest n is ls_is rest_is =
     let w : TypedStep → ℕ = λ x. step_laws.the_size x in
     let all : most w ls < expr_laws.the_size e = all_steps_fall p first steps e ls is ls_is in
-    let behind : most w (drop n ls) ≤ most w ls = most_behind w ls n in
+    let behind : most w (drop n ls) ≤ most w ls = most_after w ls n in
     let same : most w rest ≡ most w (drop n ls) = ap (most w) rest_is in
     omega arith

@@ -16,12 +16,12 @@ use Rattle.ss_expand_lifting.specs.declared.code.Code.{Code}
 abbrev pub coded_by : Code → Vec Ty → Coded
 coded_by code made = record { code = stmts_of code.statements; made = made.items }
 
--- a left side that has been settled, and the same behind this code
+-- a left side that has been settled, and the same after this code
 abbrev pub settled_by : Code → Vec Ty → ExprTree → Settled
 settled_by code made target = record { code = stmts_of code.statements; target = target; made = made.items }
 
-abbrev pub settled_behind : List core.StmtTree → Settled → Settled
-settled_behind code s = record s { code = code ++ s.code }
+abbrev pub settled_after : List core.StmtTree → Settled → Settled
+settled_after code s = record s { code = code ++ s.code }
 
 -- what stands for a left side: one that was made anew, or itself
 abbrev pub settled_target : ExprTree → Option (Box TypedExpr) → ExprTree

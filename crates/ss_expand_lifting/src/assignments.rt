@@ -13,7 +13,7 @@ ghost use Rattle.ss_expand_rules.specs.Code.{after};
 ghost use Rattle.ss_expand_rules.specs.Lifting as lifting;
 ghost use Rattle.ss_expand_rules.specs.Program as program;
 ghost use Rattle.ss_expand_rules.specs.Simple as elab;
-ghost use Rattle.ss_expand_expressions.specs.Sources.{stmts_of, source_of, lifted_by, lifted_behind};
+ghost use Rattle.ss_expand_expressions.specs.Sources.{stmts_of, source_of, lifted_by, lifted_after};
 ghost use Rattle.ss_expand_expressions.specs.Operands.{IsOperand};
 ghost use Rattle.ss_expand_lifting.specs.Contexts.{context_of};
 ghost use Rattle.ss_expand_lifting.specs.Lefts.{IsLeft};
@@ -181,7 +181,7 @@ fn assign_settled(
 }
 
 // Adds what assigns the right side, where the parts of the left side are evaluated before it.
-fn assign_behind(
+fn assign_after(
     context: &ElaborationContext<'_>,
     target: &TypedExpr,
     e: &TypedExpr,
@@ -189,7 +189,7 @@ fn assign_behind(
     made: &mut Vec<Ty>,
 ) -> Result<(), AllocError>
     ensures { OnOk result (coded_by code.new made.new
-        ≡ after (stmts_of code.old.statements) (elab.assign_behind (context_of context.now) (typed.expr e.now) (elab.settle (context_of context.now) (typed.expr target.now) made.old.items))) }
+        ≡ after (stmts_of code.old.statements) (elab.assign_after (context_of context.now) (typed.expr e.now) (elab.settle (context_of context.now) (typed.expr target.now) made.old.items))) }
 {
     let kept = settle(context, target, code, made)?;
     match kept {
@@ -216,7 +216,7 @@ fn assign(
         ≡ after (stmts_of code.old.statements) (elab.assign (context_of context.now) (typed.expr target.now) (typed.expr e.now) made.old.items)) }
 {
     if are_kept(has_call(target), has_call(e)) {
-        assign_behind(context, target, e, code, made)?;
+        assign_after(context, target, e, code, made)?;
         Ok(())
     } else {
         assign_settled(context, target, e, code, made)?;
@@ -236,7 +236,7 @@ fn operation_on(
     ensures { (t : ExprTree) → (before : List core.StmtTree) → (kinds : List Ty)
         → IsOperand (context_of context.now) t before kinds code.old.statements made.old operand
         → IfOk result (λ r. lifted_by code.new.statements made.new r
-        ≡ lifted_behind before (lifting.right_side (context_of context.now) (tree.BinaryOf operand.place operator t (typed.expr e.now)) kinds)) }
+        ≡ lifted_after before (lifting.right_side (context_of context.now) (tree.BinaryOf operand.place operator t (typed.expr e.now)) kinds)) }
 {
     let place = operand.place;
     if are_kept(operand.has_call, has_call(e)) {

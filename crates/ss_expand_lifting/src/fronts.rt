@@ -12,7 +12,7 @@ ghost use Rattle.ss_expand_rules.specs.Calls as calls;
 ghost use Rattle.ss_expand_rules.specs.Lifting as elab;
 ghost use Rattle.ss_expand_rules.specs.Numbers.{plain};
 ghost use Rattle.ss_expand_expressions.specs.Views.{numbers_of, path_of};
-ghost use Rattle.ss_typed.specs.Parts.{link_behind, linked, step_behind, stepped};
+ghost use Rattle.ss_typed.specs.Parts.{link_after, linked, step_after, stepped};
 ghost use Rattle.ss_expand_expressions.specs.Sources.{source_of};
 ghost use Rattle.ss_expand_expressions.specs.Operands.{IsOperand};
 ghost use Rattle.ss_expand_lifting.specs.Fronts.{IsLinkFront, IsStepFront, link_begins, step_begins};
@@ -25,7 +25,7 @@ use ss_expand_expressions::{
 use ss_typed::{TypedLink, TypedStep, link_type, path_type};
 use std::alloc::{AllocError, Global};
 
-/// An operand with what stands behind it before the first call.
+/// An operand with what stands after it before the first call.
 #[derive(Drop)]
 pub(crate) struct Front {
     pub(crate) operand: Operand,
@@ -41,8 +41,8 @@ fn first_links(links: &[TypedLink], taken: usize) -> &[TypedLink]
     &links[..taken]
 }
 
-/// The links behind the first so many.
-pub(crate) fn links_behind(links: &[TypedLink], taken: usize) -> &[TypedLink]
+/// The links after the first so many.
+pub(crate) fn links_after(links: &[TypedLink], taken: usize) -> &[TypedLink]
     requires { taken ≤ length links.now }
     ensures { result.now ≡ drop taken links.now }
 {
@@ -57,8 +57,8 @@ fn first_steps(steps: &[TypedStep], taken: usize) -> &[TypedStep]
     &steps[..taken]
 }
 
-/// The steps behind the first so many.
-pub(crate) fn steps_behind(steps: &[TypedStep], taken: usize) -> &[TypedStep]
+/// The steps after the first so many.
+pub(crate) fn steps_after(steps: &[TypedStep], taken: usize) -> &[TypedStep]
     requires { taken ≤ length steps.now }
     ensures { result.now ≡ drop taken steps.now }
 {
@@ -93,7 +93,7 @@ fn steps_without_call(steps: &[TypedStep]) -> usize
     steps.len()
 }
 
-// An expression with these links behind it.
+// An expression with these links after it.
 fn chained(
     alloc: Global,
     place: Place,
@@ -112,7 +112,7 @@ fn chained(
     }
 }
 
-// An expression with these steps behind it.
+// An expression with these steps after it.
 fn pathed(
     alloc: Global,
     place: Place,

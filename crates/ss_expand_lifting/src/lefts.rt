@@ -5,7 +5,7 @@ ghost use Rattle.ss_core.specs.View as core;
 ghost use Rattle.ss_typed.specs.View as typed;
 ghost use Rattle.ss_expand_rules.specs.Numbers.{plain};
 ghost use Rattle.ss_expand_expressions.specs.Views.{numbers_of};
-ghost use Rattle.ss_typed.specs.Parts.{step_behind, stepped};
+ghost use Rattle.ss_typed.specs.Parts.{step_after, stepped};
 ghost use Rattle.ss_expand_expressions.specs.Sources.{stmts_of};
 ghost use Rattle.ss_expand_expressions.specs.Operands.{IsOperand};
 ghost use Rattle.ss_expand_lifting.specs.Contexts.{context_of};
@@ -13,14 +13,14 @@ ghost use Rattle.ss_expand_lifting.specs.Lefts.{part_tree, IsLeft};
 
 use crate::code::Code;
 use crate::context::ElaborationContext;
-use crate::fronts::{front_of_path, steps_behind};
+use crate::fronts::{front_of_path, steps_after};
 use crate::lifting::{lift_operand, lift_steps};
 use ss_core::{Expr, FieldId, Place, Ty};
 use ss_expand_expressions::{Numbers, Operand, plain, plain_steps, whole_path};
 use ss_typed::{TypedExpr, TypedStep};
 use std::alloc::{AllocError, Global};
 
-/// A part of a left side: an expression, with these steps behind it.
+/// A part of a left side: an expression, with these steps after it.
 #[derive(Clone, Copy)]
 pub(crate) struct Part<'a> {
     pub(crate) place: Place,
@@ -45,7 +45,7 @@ fn left_of_path<'a>(
     before: &'a [TypedStep],
     last: &'a TypedStep,
 ) -> Left<'a>
-    ensures { IsLeft (step_behind last.now place (stepped place (typed.expr first.now) before.now)) result }
+    ensures { IsLeft (step_after last.now place (stepped place (typed.expr first.now) before.now)) result }
 {
     let part = Part {
         place,
@@ -133,7 +133,7 @@ pub(crate) fn part_operand(
         first,
         part.steps,
     )?;
-    let rest = steps_behind(part.steps, front.length);
+    let rest = steps_after(part.steps, front.length);
     let whole = lift_steps(context, part.place, rest, front.operand, code, made)?;
     Ok(whole)
 }

@@ -12,8 +12,8 @@ ghost use Rattle.ss_expand_rules.specs.Calls as calls;
 ghost use Rattle.ss_expand_rules.specs.Lifting as elab;
 ghost use Rattle.ss_expand_expressions.specs.Parameters.{param_types};
 ghost use Rattle.ss_expand_expressions.specs.Views.{numbers_of};
-ghost use Rattle.ss_typed.specs.Parts.{link_behind, linked, step_behind, stepped};
-ghost use Rattle.ss_expand_expressions.specs.Sources.{stmts_of, lifted_by, valued_by, listed_by, lifted_behind, valued_behind, listed_behind};
+ghost use Rattle.ss_typed.specs.Parts.{link_after, linked, step_after, stepped};
+ghost use Rattle.ss_expand_expressions.specs.Sources.{stmts_of, lifted_by, valued_by, listed_by, lifted_after, valued_after, listed_after};
 ghost use Rattle.ss_expand_expressions.specs.Operands.{IsOperand, IsBegun, valued_as};
 ghost use Rattle.ss_expand_lifting.specs.Contexts.{context_of};
 ghost use Rattle.ss_expand_lifting.specs.Fronts.{LinksGoOn, StepsGoOn};
@@ -21,7 +21,7 @@ ghost use Rattle.ss_expand_lifting.specs.Operations.{test_of, size_of, values_of
 
 use crate::code::Code;
 use crate::context::ElaborationContext;
-use crate::fronts::{front_of_chain, front_of_path, links_behind, steps_behind};
+use crate::fronts::{front_of_chain, front_of_path, links_after, steps_after};
 use crate::operations::{
     are_kept, is_and, keep_receiver, lazy_test, operand_as, operand_field, operand_is,
     operand_length, plain_all,
@@ -39,7 +39,7 @@ use ss_typed::{
 };
 use std::alloc::AllocError;
 
-/// What the expression is lifted to, behind the code so far. Without a call it stays as it is.
+/// What the expression is lifted to, after the code so far. Without a call it stays as it is.
 #[cycle(lifting)]
 pub fn right_side(
     context: &ElaborationContext<'_>,
@@ -48,7 +48,7 @@ pub fn right_side(
     made: &mut Vec<Ty>,
 ) -> Result<Source, AllocError>
     ensures { IfOk result (λ r. lifted_by code.new.statements made.new r
-        ≡ lifted_behind (stmts_of code.old.statements) (elab.right_side (context_of context.now) (typed.expr e.now) made.old.items)) }
+        ≡ lifted_after (stmts_of code.old.statements) (elab.right_side (context_of context.now) (typed.expr e.now) made.old.items)) }
 {
     if has_call(e) {
         let source = lift(context, e, code, made)?;
@@ -68,7 +68,7 @@ fn lift(
     made: &mut Vec<Ty>,
 ) -> Result<Source, AllocError>
     ensures { calls.has_call (typed.expr e.now) ≡ true → IfOk result (λ r. lifted_by code.new.statements made.new r
-        ≡ lifted_behind (stmts_of code.old.statements) (elab.lifted (context_of context.now) (typed.expr e.now) made.old.items)) }
+        ≡ lifted_after (stmts_of code.old.statements) (elab.lifted (context_of context.now) (typed.expr e.now) made.old.items)) }
 {
     match e {
         TypedExpr::Iff(place, a, b) => {
@@ -83,7 +83,7 @@ fn lift(
             let operand = lift_operand(context, first, code, made)?;
             let list = links.as_slice();
             let front = front_of_chain(context.alloc, context.numbers, *place, operand, list)?;
-            let rest = links_behind(list, front.length);
+            let rest = links_after(list, front.length);
             Ok(lift_chain(context, *place, rest, front.operand, code, made)?)
         }
         TypedExpr::Negate(place, e) => Ok(lift_negate(context, *place, e, code, made)?),
@@ -97,7 +97,7 @@ fn lift(
             let operand = lift_operand(context, first, code, made)?;
             let list = steps.as_slice();
             let front = front_of_path(context.alloc, context.numbers, *place, operand, list)?;
-            let rest = steps_behind(list, front.length);
+            let rest = steps_after(list, front.length);
             Ok(lift_path(context, *place, rest, front.operand, code, made)?)
         }
         TypedExpr::New(place, class, es) => Ok(lift_new(context, *place, *class, es, code, made)?),
@@ -122,8 +122,8 @@ fn lift_iff(
     made: &mut Vec<Ty>,
 ) -> Result<Source, AllocError>
     ensures { (a : ExprTree) → (before : List core.StmtTree) → (types : List Ty)
-        → valued_by code.old.statements made.old left ≡ valued_behind before (elab.operand (numbers_of context.now.numbers.now) elab.any_object a (elab.lifted (context_of context.now) a) types)
-        → IfOk result (λ r. lifted_by code.new.statements made.new r ≡ lifted_behind before (elab.lifted (context_of context.now) (tree.IffOf place a (typed.expr b.now)) types)) }
+        → valued_by code.old.statements made.old left ≡ valued_after before (elab.operand (numbers_of context.now.numbers.now) elab.any_object a (elab.lifted (context_of context.now) a) types)
+        → IfOk result (λ r. lifted_by code.new.statements made.new r ≡ lifted_after before (elab.lifted (context_of context.now) (tree.IffOf place a (typed.expr b.now)) types)) }
 {
     let right = lift_kept(context, any_object(), b, code, made)?;
     let value = iff_of(context.alloc, place, left, right)?;
@@ -142,7 +142,7 @@ fn begin_implication(
     ensures place { IfOk result (λ r. r.place ≡ place) }
     ensures holds { IfOk result (λ r. r.holds ≡ false) }
     ensures begun { IfOk result (λ r. IsBegun (numbers_of context.now.numbers.now) (place_of (typed.expr a.now))
-        (lifted_behind (stmts_of code.old.statements) (elab.negated (numbers_of context.now.numbers.now) (typed.expr a.now) (elab.lifted (context_of context.now) (typed.expr a.now)) made.old.items))
+        (lifted_after (stmts_of code.old.statements) (elab.negated (numbers_of context.now.numbers.now) (typed.expr a.now) (elab.lifted (context_of context.now) (typed.expr a.now)) made.old.items))
         r.x (stmts_of code.new.statements) made.new.items) }
 {
     let negated = lift_negated(context, a, code, made)?;
@@ -172,7 +172,7 @@ fn lift_chain(
 ) -> Result<Source, AllocError>
     ensures { (e : ExprTree) → (before : List core.StmtTree) → (types : List Ty)
         → IsOperand (context_of context.now) e before types code.old.statements made.old first → LinksGoOn place e links.now
-        → IfOk result (λ r. lifted_by code.new.statements made.new r ≡ lifted_behind before (elab.right_side (context_of context.now) (linked place e links.now) types)) }
+        → IfOk result (λ r. lifted_by code.new.statements made.new r ≡ lifted_after before (elab.right_side (context_of context.now) (linked place e links.now) types)) }
 {
     let whole = lift_links(context, place, links, first, code, made)?;
     Ok(whole.source)
@@ -190,7 +190,7 @@ fn lift_path(
 ) -> Result<Source, AllocError>
     ensures { (e : ExprTree) → (before : List core.StmtTree) → (types : List Ty)
         → IsOperand (context_of context.now) e before types code.old.statements made.old first → StepsGoOn place e steps.now
-        → IfOk result (λ r. lifted_by code.new.statements made.new r ≡ lifted_behind before (elab.right_side (context_of context.now) (stepped place e steps.now) types)) }
+        → IfOk result (λ r. lifted_by code.new.statements made.new r ≡ lifted_after before (elab.right_side (context_of context.now) (stepped place e steps.now) types)) }
 {
     let whole = lift_steps(context, place, steps, first, code, made)?;
     Ok(whole.source)
@@ -206,7 +206,7 @@ fn lift_negate(
     made: &mut Vec<Ty>,
 ) -> Result<Source, AllocError>
     ensures { IfOk result (λ r. lifted_by code.new.statements made.new r
-        ≡ lifted_behind (stmts_of code.old.statements) (elab.lifted (context_of context.now) (tree.NegateOf place (typed.expr e.now)) made.old.items)) }
+        ≡ lifted_after (stmts_of code.old.statements) (elab.lifted (context_of context.now) (tree.NegateOf place (typed.expr e.now)) made.old.items)) }
 {
     let value = lift_kept(context, any_object(), e, code, made)?;
     let negated = negate_of(context.alloc, place, value)?;
@@ -223,7 +223,7 @@ fn lift_not(
     made: &mut Vec<Ty>,
 ) -> Result<Source, AllocError>
     ensures { IfOk result (λ r. lifted_by code.new.statements made.new r
-        ≡ lifted_behind (stmts_of code.old.statements) (elab.lifted (context_of context.now) (tree.NotOf place (typed.expr e.now)) made.old.items)) }
+        ≡ lifted_after (stmts_of code.old.statements) (elab.lifted (context_of context.now) (tree.NotOf place (typed.expr e.now)) made.old.items)) }
 {
     let value = lift_kept(context, any_object(), e, code, made)?;
     let negated = not_of(context.alloc, place, value)?;
@@ -241,7 +241,7 @@ fn lift_new(
     made: &mut Vec<Ty>,
 ) -> Result<Source, AllocError>
     ensures { IfOk result (λ r. lifted_by code.new.statements made.new r
-        ≡ lifted_behind (stmts_of code.old.statements) (elab.lifted (context_of context.now) (tree.NewOf place class.0 (tree.arguments (typed.exprs es.now))) made.old.items)) }
+        ≡ lifted_after (stmts_of code.old.statements) (elab.lifted (context_of context.now) (tree.NewOf place class.0 (tree.arguments (typed.exprs es.now))) made.old.items)) }
 {
     let params = params_in(constructor_of(context.program, class));
     let values = arguments(context, params, es, code, made)?;
@@ -259,7 +259,7 @@ fn lift_array(
     made: &mut Vec<Ty>,
 ) -> Result<Source, AllocError>
     ensures { IfOk result (λ r. lifted_by code.new.statements made.new r
-        ≡ lifted_behind (stmts_of code.old.statements) (elab.lifted (context_of context.now) (tree.NewArrayOf place class.0 (typed.expr e.now)) made.old.items)) }
+        ≡ lifted_after (stmts_of code.old.statements) (elab.lifted (context_of context.now) (tree.NewArrayOf place class.0 (typed.expr e.now)) made.old.items)) }
 {
     let size = lift_size(context, e, code, made)?;
     Ok(Source::CreatedArray(place, class, size))
@@ -276,7 +276,7 @@ fn lift_static(
     made: &mut Vec<Ty>,
 ) -> Result<Source, AllocError>
     ensures { (t : Option Ty) → IfOk result (λ r. lifted_by code.new.statements made.new r
-        ≡ lifted_behind (stmts_of code.old.statements) (elab.lifted (context_of context.now) (tree.StaticOf place number.0 t (tree.arguments (typed.exprs es.now))) made.old.items)) }
+        ≡ lifted_after (stmts_of code.old.statements) (elab.lifted (context_of context.now) (tree.StaticOf place number.0 t (tree.arguments (typed.exprs es.now))) made.old.items)) }
 {
     let params = params_in(body_at(context.program, number));
     let values = arguments(context, params, es, code, made)?;
@@ -295,7 +295,7 @@ fn lift_base(
     made: &mut Vec<Ty>,
 ) -> Result<Source, AllocError>
     ensures { (t : Option Ty) → IfOk result (λ r. lifted_by code.new.statements made.new r
-        ≡ lifted_behind (stmts_of code.old.statements) (elab.lifted (context_of context.now) (tree.BaseOf place method t (tree.arguments (typed.exprs es.now))) made.old.items)) }
+        ≡ lifted_after (stmts_of code.old.statements) (elab.lifted (context_of context.now) (tree.BaseOf place method t (tree.arguments (typed.exprs es.now))) made.old.items)) }
 {
     let above = above_of(context.program, context.body.class);
     let params = params_in(method_at(context.program, above, method));
@@ -334,7 +334,7 @@ fn lift_kept(
     made: &mut Vec<Ty>,
 ) -> Result<Expr, AllocError>
     ensures { IfOk result (λ v. valued_by code.new.statements made.new v
-        ≡ valued_behind (stmts_of code.old.statements) (elab.operand (numbers_of context.now.numbers.now) wanted (typed.expr e.now) (elab.lifted (context_of context.now) (typed.expr e.now)) made.old.items)) }
+        ≡ valued_after (stmts_of code.old.statements) (elab.operand (numbers_of context.now.numbers.now) wanted (typed.expr e.now) (elab.lifted (context_of context.now) (typed.expr e.now)) made.old.items)) }
 {
     let operand = lift_operand(context, e, code, made)?;
     let value = keep(context.numbers, &mut code.statements, made, wanted, operand)?;
@@ -350,7 +350,7 @@ fn lift_negated(
     made: &mut Vec<Ty>,
 ) -> Result<Source, AllocError>
     ensures { IfOk result (λ r. lifted_by code.new.statements made.new r
-        ≡ lifted_behind (stmts_of code.old.statements) (elab.negated (numbers_of context.now.numbers.now) (typed.expr a.now) (elab.lifted (context_of context.now) (typed.expr a.now)) made.old.items)) }
+        ≡ lifted_after (stmts_of code.old.statements) (elab.negated (numbers_of context.now.numbers.now) (typed.expr a.now) (elab.lifted (context_of context.now) (typed.expr a.now)) made.old.items)) }
 {
     if has_call(a) {
         let value = lift_kept(context, Ty::Bool, a, code, made)?;
@@ -372,7 +372,7 @@ fn lift_size(
     made: &mut Vec<Ty>,
 ) -> Result<Expr, AllocError>
     ensures { IfOk result (λ v. valued_by code.new.statements made.new v
-        ≡ valued_behind (stmts_of code.old.statements) (size_of (context_of context.now) (typed.expr e.now) made.old.items)) }
+        ≡ valued_after (stmts_of code.old.statements) (size_of (context_of context.now) (typed.expr e.now) made.old.items)) }
 {
     if has_call(e) {
         let value = lift_kept(context, any_object(), e, code, made)?;
@@ -439,7 +439,7 @@ fn lift_links(
     Ok(operand)
 }
 
-// A link behind an operand.
+// A link after an operand.
 #[cycle(lifting)]
 fn lift_link(
     context: &ElaborationContext<'_>,
@@ -451,10 +451,10 @@ fn lift_link(
 ) -> Result<Operand, AllocError>
     ensures { (e : ExprTree) → (before : List core.StmtTree) → (types : List Ty)
         → IsOperand (context_of context.now) e before types code.old.statements made.old operand
-        → calls.has_call (link_behind link.now place e) ≡ true
-        → IfOk result (λ o. IsOperand (context_of context.now) (link_behind link.now place e) before types code.new.statements made.new o) }
+        → calls.has_call (link_after link.now place e) ≡ true
+        → IfOk result (λ o. IsOperand (context_of context.now) (link_after link.now place e) before types code.new.statements made.new o) }
 {
-    let source = lift_behind(context, place, link, operand, code, made)?;
+    let source = lift_after(context, place, link, operand, code, made)?;
     Ok(Operand {
         source,
         place,
@@ -466,7 +466,7 @@ fn lift_link(
 
 // The operation of a link with a call in it or before it.
 #[cycle(lifting)]
-fn lift_behind(
+fn lift_after(
     context: &ElaborationContext<'_>,
     place: Place,
     link: &TypedLink,
@@ -476,7 +476,7 @@ fn lift_behind(
 ) -> Result<Source, AllocError>
     ensures { (e : ExprTree) → (before : List core.StmtTree) → (types : List Ty)
         → IsOperand (context_of context.now) e before types code.old.statements made.old operand
-        → IfOk result (λ r. lifted_by code.new.statements made.new r ≡ lifted_behind before (elab.lifted (context_of context.now) (link_behind link.now place e) types)) }
+        → IfOk result (λ r. lifted_by code.new.statements made.new r ≡ lifted_after before (elab.lifted (context_of context.now) (link_after link.now place e) types)) }
 {
     match link {
         TypedLink::Operation(operator, b) => {
@@ -519,7 +519,7 @@ pub(crate) fn lift_operation(
 ) -> Result<Source, AllocError>
     ensures { (e : ExprTree) → (before : List core.StmtTree) → (types : List Ty)
         → IsOperand (context_of context.now) e before types code.old.statements made.old operand
-        → IfOk result (λ r. lifted_by code.new.statements made.new r ≡ lifted_behind before (elab.lifted (context_of context.now) (tree.BinaryOf placed.place placed.operator e (typed.expr b.now)) types)) }
+        → IfOk result (λ r. lifted_by code.new.statements made.new r ≡ lifted_after before (elab.lifted (context_of context.now) (tree.BinaryOf placed.place placed.operator e (typed.expr b.now)) types)) }
 {
     let PlacedOperator { place, operator } = placed;
     let numbers = context.numbers;
@@ -564,7 +564,7 @@ pub(crate) fn lift_steps(
     Ok(operand)
 }
 
-// A step behind an operand.
+// A step after an operand.
 #[cycle(lifting)]
 fn lift_step(
     context: &ElaborationContext<'_>,
@@ -576,8 +576,8 @@ fn lift_step(
 ) -> Result<Operand, AllocError>
     ensures { (e : ExprTree) → (before : List core.StmtTree) → (types : List Ty)
         → IsOperand (context_of context.now) e before types code.old.statements made.old operand
-        → calls.has_call (step_behind step.now place e) ≡ true
-        → IfOk result (λ o. IsOperand (context_of context.now) (step_behind step.now place e) before types code.new.statements made.new o) }
+        → calls.has_call (step_after step.now place e) ≡ true
+        → IfOk result (λ o. IsOperand (context_of context.now) (step_after step.now place e) before types code.new.statements made.new o) }
 {
     let ty = step_type(operand.ty, step);
     let source = lift_onward(context, place, step, operand, code, made)?;
@@ -602,7 +602,7 @@ fn lift_onward(
 ) -> Result<Source, AllocError>
     ensures { (e : ExprTree) → (before : List core.StmtTree) → (types : List Ty)
         → IsOperand (context_of context.now) e before types code.old.statements made.old operand
-        → IfOk result (λ r. lifted_by code.new.statements made.new r ≡ lifted_behind before (elab.lifted (context_of context.now) (step_behind step.now place e) types)) }
+        → IfOk result (λ r. lifted_by code.new.statements made.new r ≡ lifted_after before (elab.lifted (context_of context.now) (step_after step.now place e) types)) }
 {
     match step {
         TypedStep::Field(field, _) => {
@@ -642,7 +642,7 @@ fn lift_element(
 ) -> Result<Source, AllocError>
     ensures { (e : ExprTree) → (before : List core.StmtTree) → (types : List Ty)
         → IsOperand (context_of context.now) e before types code.old.statements made.old operand
-        → IfOk result (λ r. lifted_by code.new.statements made.new r ≡ lifted_behind before (elab.lifted (context_of context.now) (tree.ElementOf place e (typed.expr index.now)) types)) }
+        → IfOk result (λ r. lifted_by code.new.statements made.new r ≡ lifted_after before (elab.lifted (context_of context.now) (tree.ElementOf place e (typed.expr index.now)) types)) }
 {
     let array = keep(
         context.numbers,
@@ -675,7 +675,7 @@ fn lift_call(
 ) -> Result<Source, AllocError>
     ensures { (e : ExprTree) → (t : Option Ty) → (before : List core.StmtTree) → (types : List Ty)
         → IsOperand (context_of context.now) e before types code.old.statements made.old operand
-        → IfOk result (λ r. lifted_by code.new.statements made.new r ≡ lifted_behind before (elab.lifted (context_of context.now) (tree.CallOf placed.place e placed.method t (tree.arguments (typed.exprs es.now))) types)) }
+        → IfOk result (λ r. lifted_by code.new.statements made.new r ≡ lifted_after before (elab.lifted (context_of context.now) (tree.CallOf placed.place e placed.method t (tree.arguments (typed.exprs es.now))) types)) }
 {
     let PlacedMethod { place, method } = placed;
     let class = class_of_type(operand.ty);
@@ -698,7 +698,7 @@ fn lift_all(
     made: &mut Vec<Ty>,
 ) -> Result<Vec<Expr>, AllocError>
     ensures { IfOk result (λ vs. listed_by code.new.statements made.new vs
-        ≡ listed_behind (stmts_of code.old.statements) (elab.in_temporaries (context_of context.now) (param_types params.now) (tree.arguments (typed.exprs es.now)) made.old.items)) }
+        ≡ listed_after (stmts_of code.old.statements) (elab.in_temporaries (context_of context.now) (param_types params.now) (tree.arguments (typed.exprs es.now)) made.old.items)) }
 {
     let mut values = Vec::new(context.alloc);
     let mut rest = params;
@@ -721,7 +721,7 @@ fn lift_values(
     made: &mut Vec<Ty>,
 ) -> Result<Vec<Expr>, AllocError>
     ensures { IfOk result (λ vs. listed_by code.new.statements made.new vs
-        ≡ listed_behind (stmts_of code.old.statements) (values_of (context_of context.now) (param_types params.now) kept (tree.arguments (typed.exprs es.now)) made.old.items)) }
+        ≡ listed_after (stmts_of code.old.statements) (values_of (context_of context.now) (param_types params.now) kept (tree.arguments (typed.exprs es.now)) made.old.items)) }
 {
     if kept {
         let values = lift_all(context, params, es, code, made)?;
@@ -742,7 +742,7 @@ pub fn arguments(
     made: &mut Vec<Ty>,
 ) -> Result<Vec<Expr>, AllocError>
     ensures { IfOk result (λ vs. listed_by code.new.statements made.new vs
-        ≡ listed_behind (stmts_of code.old.statements) (elab.arguments_of (context_of context.now) (param_types params.now) (tree.arguments (typed.exprs es.now)) made.old.items)) }
+        ≡ listed_after (stmts_of code.old.statements) (elab.arguments_of (context_of context.now) (param_types params.now) (tree.arguments (typed.exprs es.now)) made.old.items)) }
 {
     let values = lift_values(context, params, have_call(es), es, code, made)?;
     Ok(values)
@@ -756,7 +756,7 @@ pub fn value(
     made: &mut Vec<Ty>,
 ) -> Result<Expr, AllocError>
     ensures { IfOk result (λ v. valued_by code.new.statements made.new v
-        ≡ valued_behind (stmts_of code.old.statements) (elab.value (context_of context.now) (typed.expr e.now) made.old.items)) }
+        ≡ valued_after (stmts_of code.old.statements) (elab.value (context_of context.now) (typed.expr e.now) made.old.items)) }
 {
     let source = right_side(context, e, code, made)?;
     let before = &mut code.statements;

@@ -11,7 +11,7 @@ ghost use Rattle.ss_expand_rules.specs.Calls as calls;
 ghost use Rattle.ss_expand_rules.specs.Lifting as elab;
 ghost use Rattle.ss_expand_rules.specs.Numbers.{plain_arguments};
 ghost use Rattle.ss_expand_expressions.specs.Views.{numbers_of};
-ghost use Rattle.ss_expand_expressions.specs.Sources.{stmts_of, lifted_by, valued_by, lifted_behind, valued_behind};
+ghost use Rattle.ss_expand_expressions.specs.Sources.{stmts_of, lifted_by, valued_by, lifted_after, valued_after};
 ghost use Rattle.ss_expand_expressions.specs.Operands.{IsOperand};
 ghost use Rattle.ss_expand_lifting.specs.Operations.{is_and, test_of, receiver_of};
 
@@ -73,7 +73,7 @@ pub(crate) fn operand_is(
 ) -> Result<Source, AllocError>
     ensures { (s : elab.ElaborationContext) → (e : ExprTree) → (before : List tree.StmtTree) → (types : List Ty)
         → s.numbers ≡ numbers_of context.now.numbers.now → IsOperand s e before types code.old made.old operand
-        → IfOk result (λ r. lifted_by code.new made.new r ≡ lifted_behind before (elab.lifted s (IsOf place e class.0) types)) }
+        → IfOk result (λ r. lifted_by code.new made.new r ≡ lifted_after before (elab.lifted s (IsOf place e class.0) types)) }
 {
     let value = keep(context.numbers, code, made, any_object(), operand)?;
     let test = is_of(context.alloc, place, value, class)?;
@@ -91,7 +91,7 @@ pub(crate) fn operand_as(
 ) -> Result<Source, AllocError>
     ensures { (s : elab.ElaborationContext) → (e : ExprTree) → (before : List tree.StmtTree) → (types : List Ty)
         → s.numbers ≡ numbers_of context.now.numbers.now → IsOperand s e before types code.old made.old operand
-        → IfOk result (λ r. lifted_by code.new made.new r ≡ lifted_behind before (elab.lifted s (AsOf place e class.0) types)) }
+        → IfOk result (λ r. lifted_by code.new made.new r ≡ lifted_after before (elab.lifted s (AsOf place e class.0) types)) }
 {
     let value = keep(context.numbers, code, made, any_object(), operand)?;
     let cast = as_of(context.alloc, place, value, class)?;
@@ -109,7 +109,7 @@ pub(crate) fn operand_field(
 ) -> Result<Source, AllocError>
     ensures { (s : elab.ElaborationContext) → (e : ExprTree) → (t : Ty) → (before : List tree.StmtTree) → (types : List Ty)
         → s.numbers ≡ numbers_of context.now.numbers.now → IsOperand s e before types code.old made.old operand
-        → IfOk result (λ r. lifted_by code.new made.new r ≡ lifted_behind before (elab.lifted s (FieldOf place e field.0 t) types)) }
+        → IfOk result (λ r. lifted_by code.new made.new r ≡ lifted_after before (elab.lifted s (FieldOf place e field.0 t) types)) }
 {
     let object = keep(context.numbers, code, made, any_object(), operand)?;
     let value = field_of(context.alloc, place, object, field)?;
@@ -126,7 +126,7 @@ pub(crate) fn operand_length(
 ) -> Result<Source, AllocError>
     ensures { (s : elab.ElaborationContext) → (e : ExprTree) → (before : List tree.StmtTree) → (types : List Ty)
         → s.numbers ≡ numbers_of context.now.numbers.now → IsOperand s e before types code.old made.old operand
-        → IfOk result (λ r. lifted_by code.new made.new r ≡ lifted_behind before (elab.lifted s (LengthOf place e) types)) }
+        → IfOk result (λ r. lifted_by code.new made.new r ≡ lifted_after before (elab.lifted s (LengthOf place e) types)) }
 {
     let array = keep(context.numbers, code, made, any_object(), operand)?;
     let length = length_of(context.alloc, place, array)?;
@@ -166,7 +166,7 @@ pub(crate) fn keep_receiver(
 ) -> Result<Expr, AllocError>
     ensures { (s : elab.ElaborationContext) → (e : ExprTree) → (before : List tree.StmtTree) → (types : List Ty)
         → s.numbers ≡ numbers_of numbers.now → IsOperand s e before types code.old made.old operand
-        → IfOk result (λ v. valued_by code.new made.new v ≡ valued_behind before (receiver_of s in_arguments e types)) }
+        → IfOk result (λ v. valued_by code.new made.new v ≡ valued_after before (receiver_of s in_arguments e types)) }
 {
     if are_kept(operand.has_call, in_arguments) {
         let value = keep(numbers, code, made, any_object(), operand)?;

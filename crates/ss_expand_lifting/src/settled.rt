@@ -9,12 +9,12 @@ ghost use Rattle.ss_typed.specs.View as typed;
 ghost use Rattle.ss_typed.specs.Shapes as shapes;
 ghost use Rattle.ss_expand_rules.specs.Lifting as lifting;
 ghost use Rattle.ss_expand_rules.specs.Simple as elab;
-ghost use Rattle.ss_typed.specs.Parts.{step_behind, stepped};
+ghost use Rattle.ss_typed.specs.Parts.{step_after, stepped};
 ghost use Rattle.ss_expand_expressions.specs.Sources.{stmts_of};
 ghost use Rattle.ss_expand_expressions.specs.Operands.{IsOperand};
 ghost use Rattle.ss_expand_lifting.specs.Contexts.{context_of};
 ghost use Rattle.ss_expand_lifting.specs.Lefts.{part_tree};
-ghost use Rattle.ss_expand_lifting.specs.Made.{settled_by, settled_behind, settled_target};
+ghost use Rattle.ss_expand_lifting.specs.Made.{settled_by, settled_after, settled_target};
 
 use crate::code::Code;
 use crate::context::ElaborationContext;
@@ -60,14 +60,14 @@ fn path_with(place: Place, first: Box<TypedExpr>, steps: Vec<TypedStep>) -> Type
     TypedExpr::Path(place, first, steps)
 }
 
-// An expression with one step behind it.
+// An expression with one step after it.
 fn with_step(
     alloc: Global,
     place: Place,
     e: Box<TypedExpr>,
     step: TypedStep,
 ) -> Result<Box<TypedExpr>, AllocError>
-    ensures { IfOk result (λ r. typed.expr r.value ≡ step_behind step place (typed.expr e.value)) }
+    ensures { IfOk result (λ r. typed.expr r.value ≡ step_after step place (typed.expr e.value)) }
 {
     let mut steps = Vec::new(alloc);
     steps.push(step)?;
@@ -109,7 +109,7 @@ fn settle_operand(
 ) -> Result<Box<TypedExpr>, AllocError>
     ensures { (e : ExprTree) → (before : List core.StmtTree) → (kinds : List Ty)
         → IsOperand (context_of context.now) e before kinds code.old.statements made.old operand
-        → IfOk result (λ t. settled_by code.new made.new (typed.expr t.value) ≡ settled_behind before (elab.settle_lifted (context_of context.now) e (lifting.right_side (context_of context.now) e kinds))) }
+        → IfOk result (λ t. settled_by code.new made.new (typed.expr t.value) ≡ settled_after before (elab.settle_lifted (context_of context.now) e (lifting.right_side (context_of context.now) e kinds))) }
 {
     let x = next(context.numbers, made)?;
     let ty = temporary_type(any_object(), operand.ty);
@@ -128,7 +128,7 @@ fn settle_whole(
     made: &mut Vec<Ty>,
 ) -> Result<Box<TypedExpr>, AllocError>
     ensures { IfOk result (λ t. settled_by code.new made.new (typed.expr t.value)
-        ≡ settled_behind (stmts_of code.old.statements) (elab.settle_part (context_of context.now) (typed.expr e.now) made.old.items)) }
+        ≡ settled_after (stmts_of code.old.statements) (elab.settle_part (context_of context.now) (typed.expr e.now) made.old.items)) }
 {
     if is_this(e) {
         let this = this_again(e);
@@ -148,7 +148,7 @@ fn settle_part(
     made: &mut Vec<Ty>,
 ) -> Result<Box<TypedExpr>, AllocError>
     ensures { IfOk result (λ t. settled_by code.new made.new (typed.expr t.value)
-        ≡ settled_behind (stmts_of code.old.statements) (elab.settle_part (context_of context.now) (part_tree part.entry) made.old.items)) }
+        ≡ settled_after (stmts_of code.old.statements) (elab.settle_part (context_of context.now) (part_tree part.entry) made.old.items)) }
 {
     if part.steps.is_empty() {
         let settled = settle_whole(context, part.first, code, made)?;
@@ -168,7 +168,7 @@ pub(crate) fn settle(
     made: &mut Vec<Ty>,
 ) -> Result<Option<Box<TypedExpr>>, AllocError>
     ensures { IfOk result (λ t. settled_by code.new made.new (settled_target (typed.expr target.now) t)
-        ≡ settled_behind (stmts_of code.old.statements) (elab.settle (context_of context.now) (typed.expr target.now) made.old.items)) }
+        ≡ settled_after (stmts_of code.old.statements) (elab.settle (context_of context.now) (typed.expr target.now) made.old.items)) }
 {
     match left_of(target) {
         Left::Field(place, object, field, ty) => {

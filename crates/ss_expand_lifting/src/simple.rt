@@ -9,7 +9,7 @@ ghost use Rattle.ss_expand_rules.specs.Code.{after};
 ghost use Rattle.ss_expand_rules.specs.Lifting as lifting;
 ghost use Rattle.ss_typed.specs.Lookups as lookups;
 ghost use Rattle.ss_expand_rules.specs.Simple as elab;
-ghost use Rattle.ss_expand_expressions.specs.Sources.{stmts_of, source_of, lifted_by, lifted_behind};
+ghost use Rattle.ss_expand_expressions.specs.Sources.{stmts_of, source_of, lifted_by, lifted_after};
 ghost use Rattle.ss_expand_lifting.specs.Contexts.{context_of};
 ghost use Rattle.ss_expand_lifting.specs.Made.{coded_by, initial_of};
 
@@ -31,7 +31,7 @@ fn first_value(
     made: &mut Vec<Ty>,
 ) -> Result<Source, AllocError>
     ensures { IfOk result (λ r. lifted_by code.new.statements made.new r
-        ≡ lifted_behind (stmts_of code.old.statements) (initial_of (context_of context.now) (typed.declarator declarator.now) (typed.declarator declarator.now).initial made.old.items)) }
+        ≡ lifted_after (stmts_of code.old.statements) (initial_of (context_of context.now) (typed.declarator declarator.now) (typed.declarator declarator.now).initial made.old.items)) }
 {
     match &declarator.initial {
         Some(e) => {
@@ -139,14 +139,14 @@ fn print(
 
 // ---- `base(..)`
 
-// Adds what makes `this` ready behind a call of the constructor of this class.
+// Adds what makes `this` ready after a call of the constructor of this class.
 fn add_ready(
     context: &ElaborationContext<'_>,
     place: Place,
     above: ClassId,
     code: &mut Code,
 ) -> Result<(), AllocError>
-    ensures { OnOk result (stmts_of code.new.statements ≡ stmts_of code.old.statements ++ elab.ready_behind (context_of context.now) place above.0) }
+    ensures { OnOk result (stmts_of code.new.statements ≡ stmts_of code.old.statements ++ elab.ready_after (context_of context.now) place above.0) }
 {
     if context.body.flags.delayed {
         return Ok(());
@@ -191,7 +191,7 @@ fn base_with(
     Ok(())
 }
 
-/// Adds `base(..)` at this place, with what makes `this` ready behind it.
+/// Adds `base(..)` at this place, with what makes `this` ready after it.
 pub fn base_call(
     context: &ElaborationContext<'_>,
     place: Place,

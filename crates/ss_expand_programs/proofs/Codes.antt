@@ -1,4 +1,4 @@
--- Code behind other code.
+-- Code after other code.
 use Rattle.std.proofs.Common.{◌≡◌, ℕ, List, [], ◌∷◌, ◌++◌, map, Bool, true, false, Option, Some, None, refl, ap, sym, ◌∙◌, append_assoc}
 use Rattle.std.proofs.lemmas.List.{append-nil}
 use Rattle.std.specs.Prelude.{if◌then◌else◌, ◌&&◌}
@@ -16,7 +16,7 @@ use Rattle.ss_expand_rules.specs.Ends.{can_end, block_can_end, all_can_end}
 use Rattle.ss_expand_rules.specs.Statements as statements
 use Rattle.ss_expand_rules.specs.Statements.{branch, exposed, exposed_class, loop_from, loop_while, pack_of, leave_with, leave_value, packs, within, stmt, stmts, block}
 use Rattle.ss_expand_expressions.specs.Operands.{valued_as}
-use Rattle.ss_expand_expressions.specs.Sources.{valued_behind}
+use Rattle.ss_expand_expressions.specs.Sources.{valued_after}
 use Rattle.ss_expand_programs.specs.Returns.{returned_in}
 use Rattle.ss_expand_programs.specs.Loops.{tested, turn_of}
 use Rattle.ss_expand_programs.specs.Opening.{opened_by, object_of, opening}
@@ -27,7 +27,7 @@ Code = List core.StmtTree
 abbrev pub coded : Code → List Ty → Coded
 coded code made = record { code = code; made = made }
 
--- ---- one behind the other
+-- ---- one after the other
 
 pub one_then : (c0 c1 c2 : Code) (m1 m2 : List Ty) (a : Coded) (f : List Ty → Coded) → coded c1 m1 ≡ after c0 a → coded c2 m2 ≡ after c1 (f m1) → coded c2 m2 ≡ after c0 (then_code a f)
 one_then c0 c1 c2 m1 m2 a f e1 e2 =
@@ -37,16 +37,16 @@ one_then c0 c1 c2 m1 m2 a f e1 e2 =
 pub then_more : (c0 c1 : Code) (m1 : List Ty) (a : Coded) (f : List Ty → Coded) → coded c1 m1 ≡ after c0 a → after c1 (f m1) ≡ after c0 (then_code a f)
 then_more c0 c1 m1 a f e = ap (λ (x : Coded). after x.code (f x.made)) e ∙ ap (λ (c : Code). coded c (f a.made).made) (append_assoc c0 a.code (f a.made).code)
 
-pub behind_new : (c0 c1 : Code) (m1 : List Ty) (a : Coded) → c0 ≡ [] → coded c1 m1 ≡ after c0 a → coded c1 m1 ≡ a
-behind_new c0 c1 m1 a z e = e ∙ ap (λ (c : Code). after c a) z
+pub after_new : (c0 c1 : Code) (m1 : List Ty) (a : Coded) → c0 ≡ [] → coded c1 m1 ≡ after c0 a → coded c1 m1 ≡ a
+after_new c0 c1 m1 a z e = e ∙ ap (λ (c : Code). after c a) z
 
-pub value_behind_new : (c0 c1 : Code) (x : core.ExprTree) (m1 : List Ty) (v : Valued) → c0 ≡ [] → valued_as c1 x m1 ≡ valued_behind c0 v → valued_as c1 x m1 ≡ v
-value_behind_new c0 c1 x m1 v z e = e ∙ ap (λ (c : Code). valued_behind c v) z
+pub value_after_new : (c0 c1 : Code) (x : core.ExprTree) (m1 : List Ty) (v : Valued) → c0 ≡ [] → valued_as c1 x m1 ≡ valued_after c0 v → valued_as c1 x m1 ≡ v
+value_after_new c0 c1 x m1 v z e = e ∙ ap (λ (c : Code). valued_after c v) z
 
 -- ---- `if`
 
 pub branched : (p : Place) (c0 c1 c2 one other : Code) (t : core.ExprTree) (m1 m2 m3 : List Ty) (v : Valued) (f g : List Ty → Coded)
-    → valued_as c1 t m1 ≡ valued_behind c0 v → coded one m2 ≡ f m1 → coded other m3 ≡ g m2 → c2 ≡ c1 ++ IfStmt p t (code_of one) (code_of other) ∷ []
+    → valued_as c1 t m1 ≡ valued_after c0 v → coded one m2 ≡ f m1 → coded other m3 ≡ g m2 → c2 ≡ c1 ++ IfStmt p t (code_of one) (code_of other) ∷ []
     → coded c2 m3 ≡ after c0 (branch p v f g)
 branched p c0 c1 c2 one other t m1 m2 m3 v f g e1 e2 e3 e4 =
     let b2 : coded one m2 ≡ f v.made = e2 ∙ ap (λ (x : Valued). f x.made) e1 in
@@ -78,7 +78,7 @@ pub turned : (s : ElaborationContext) (a : StmtTree) (x : Option SimpleTree) (i0
     → coded i2 m3 ≡ after i1 ((if reached then statements.advance s x else nothing) m2)
     → coded i2 m3 ≡ turn_of s a x m1
 turned s a x i0 i1 i2 m1 m2 m3 reached z e1 r e2 =
-    behind_new i0 i2 m3 (turn_of s a x m1) z
+    after_new i0 i2 m3 (turn_of s a x m1) z
     (one_then i0 i1 i2 m2 m3 (stmt s a m1) (if can_end a then statements.advance s x else nothing) e1
     (e2 ∙ ap (λ (b : Bool). after i1 ((if b then statements.advance s x else nothing) m2)) r))
 
@@ -89,7 +89,7 @@ left_with s p e [] made = refl
 left_with s p e (o ∷ os) made = refl
 
 pub returned : (s : ElaborationContext) (p : Place) (c0 c1 c2 : Code) (t : core.ExprTree) (m1 : List Ty) (v : Valued)
-    → valued_as c1 t m1 ≡ valued_behind c0 v → c2 ≡ c1 ++ (packs s p ++ core.ReturnStmt p (Some t) ∷ [])
+    → valued_as c1 t m1 ≡ valued_after c0 v → c2 ≡ c1 ++ (packs s p ++ core.ReturnStmt p (Some t) ∷ [])
     → coded c2 m1 ≡ after c0 (leave_with s p v)
 returned s p c0 c1 c2 t m1 v e1 e2 =
     ap (λ (c : Code). coded c m1) e2
@@ -146,7 +146,7 @@ ends_next x ss false = refl
 -- ---- the beginning of an `expose`
 
 pub opened_code : (s : ElaborationContext) (p : Place) (e : ExprTree) (t : Option ℕ) (c0 c1 c2 : Code) (m0 m1 : List Ty) (x u : ℕ)
-    → valued_as c1 (LocalExpr (place_of e) x) m1 ≡ valued_behind c0 (object_of s e m0) → x ≡ next s.numbers (right_side s e m0).made → u ≡ exposed_class e t
+    → valued_as c1 (LocalExpr (place_of e) x) m1 ≡ valued_after c0 (object_of s e m0) → x ≡ next s.numbers (right_side s e m0).made → u ≡ exposed_class e t
     → c2 ≡ c1 ++ UnpackStmt p x u ∷ []
     → coded c2 m1 ≡ after c0 (opening s p e t m0)
 opened_code s p e t c0 c1 c2 m0 m1 x u e1 ex eu e2 =

@@ -1,4 +1,4 @@
--- Lists of statements, one behind the other.
+-- Lists of statements, one after the other.
 use Rattle.std.proofs.Common.{◌≡◌, ℕ, suc, ◌+◌, List, [], ◌∷◌, ◌++◌, take, drop, cond, Bool, true, false, Option, Some, None, refl, ap, sym, ◌∙◌, append_assoc, true≢false, arith, ◌-◌, length}
 use Rattle.std.specs.Prelude.{if◌then◌else◌, ◌&&◌}
 use Rattle.std.specs.List.{prefix_len}
@@ -17,13 +17,13 @@ use Rattle.ss_expand_rules.specs.Code.{Coded, nothing, after, then_code}
 use Rattle.ss_expand_rules.specs.Lifting.{ElaborationContext}
 use Rattle.ss_expand_rules.specs.Simple.{base_call}
 use Rattle.ss_expand_rules.specs.Ends.{can_end, all_can_end}
-use Rattle.ss_expand_rules.specs.Constructors.{before_all, initialize, initializers_from, initializers_in, initializers, behind_initial, base_alone}
+use Rattle.ss_expand_rules.specs.Constructors.{before_all, initialize, initializers_from, initializers_in, initializers, after_initial, base_alone}
 use Rattle.ss_expand_rules.specs.Bodies.{with_return}
 use Rattle.ss_expand_rules.specs.Statements.{packs, stmt, stmts}
 use Rattle.ss_expand_programs.specs.Written.{last_return_of}
 use Rattle.ss_expand_programs.proofs.Codes.{Code, coded, one_then}
 
--- ---- statements behind others
+-- ---- statements after others
 
 behind_one : (b e : Bool) (a : Coded) (f g h : List Ty → Coded) → ((made : List Ty) → h made ≡ then_code (f made) (if e then g else nothing))
     → then_code a (if b then h else nothing) ≡ then_code (then_code a (if b then f else nothing)) (if b && e then g else nothing)
@@ -72,8 +72,8 @@ initial_ends p t (SimpleOf x) h = refl
 initial_ends p t s h = absurd (true≢false (sym h))
 
 split_one : (b : Bool) (p : TypedTree) (t : ℕ) (s x : StmtTree) (ss : List StmtTree) → is_first p t s ≡ b
-    → behind_initial p t x (stmt_trees ss) ≡ before_all (stmt_trees (take (prefix_len (is_first p t) ss) ss)) (Before x (stmt_trees (drop (prefix_len (is_first p t) ss) ss)))
-    → (if b then Before s (behind_initial p t x (stmt_trees ss)) else Before x (Before s (stmt_trees ss)))
+    → after_initial p t x (stmt_trees ss) ≡ before_all (stmt_trees (take (prefix_len (is_first p t) ss) ss)) (Before x (stmt_trees (drop (prefix_len (is_first p t) ss) ss)))
+    → (if b then Before s (after_initial p t x (stmt_trees ss)) else Before x (Before s (stmt_trees ss)))
     ≡ before_all (stmt_trees (take (cond b (1 + prefix_len (is_first p t) ss) 0) (s ∷ ss))) (Before x (stmt_trees (drop (cond b (1 + prefix_len (is_first p t) ss) 0) (s ∷ ss))))
 split_one true p t s x ss h k =
     let n = prefix_len (is_first p t) ss in
@@ -82,7 +82,7 @@ split_one true p t s x ss h k =
 split_one false p t s x ss h k = refl
 
 pub split_initial : (p : TypedTree) (t : ℕ) (x : StmtTree) (ss : List StmtTree)
-    → behind_initial p t x (stmt_trees ss) ≡ before_all (stmt_trees (take (prefix_len (is_first p t) ss) ss)) (Before x (stmt_trees (drop (prefix_len (is_first p t) ss) ss)))
+    → after_initial p t x (stmt_trees ss) ≡ before_all (stmt_trees (take (prefix_len (is_first p t) ss) ss)) (Before x (stmt_trees (drop (prefix_len (is_first p t) ss) ss)))
 split_initial p t x [] = refl
 split_initial p t x (s ∷ ss) = split_one (is_first p t s) p t s x ss refl (split_initial p t x ss)
 
@@ -101,7 +101,7 @@ front_ends p t (s ∷ ss) = front_one (is_first p t s) p t s ss refl (front_ends
 
 -- ---- `base()` between statements
 
--- what stands behind the first n
+-- what stands after the first n
 pub rest_of : {X : Type 0} (n : ℕ) (xs : List X) → take (length xs - n) (drop n xs) ≡ drop n xs
 rest_of n xs = take_all (length xs - n) (drop n xs) (omega (arith, length-drop n xs))
 
@@ -136,5 +136,5 @@ members_end p t None = refl
 members_end p t (Some m) = fields_end p t (field_numbers p t).first m.fields
 
 -- their end can be reached
-pub behind_initializers : (p : TypedTree) (t : ℕ) (more : StmtTrees) → all_can_end more ≡ all_can_end (before_all (initializers p t) more)
-behind_initializers p t more = sym (ends_all (initializers p t) more ∙ ap (λ b. b && all_can_end more) (members_end p t (members_of p t)))
+pub after_initializers : (p : TypedTree) (t : ℕ) (more : StmtTrees) → all_can_end more ≡ all_can_end (before_all (initializers p t) more)
+after_initializers p t more = sym (ends_all (initializers p t) more ∙ ap (λ b. b && all_can_end more) (members_end p t (members_of p t)))

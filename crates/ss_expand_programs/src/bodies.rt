@@ -105,7 +105,7 @@ fn add_all(
 }
 
 // Adds the same where the body has so many temporaries. The result is the types of those that it makes.
-fn write_behind(
+fn write_after(
     alloc: Global,
     program: &Typed,
     origins: &[Origin],
@@ -144,7 +144,7 @@ fn temporary_types(
     ensures { IfOk result (λ made. made.items ≡ bodies.temporary_types (typed.typed program.now) (typed.body body.now)) }
 {
     let mut code = Code::new(alloc);
-    let made = write_behind(alloc, program, origins, body, 0, &mut code)?;
+    let made = write_after(alloc, program, origins, body, 0, &mut code)?;
     Ok(made)
 }
 
@@ -217,7 +217,7 @@ fn write_code(
         first_param(body),
         &body.params,
     )?;
-    write_behind(alloc, program, origins, body, temporaries, &mut code)?;
+    write_after(alloc, program, origins, body, temporaries, &mut code)?;
     Ok(code.statements)
 }
 
@@ -238,7 +238,7 @@ fn contract_numbers(
     })
 }
 
-// The locals of the body behind its parameters: those that it declares, copies, and temporaries of these types.
+// The locals of the body after its parameters: those that it declares, copies, and temporaries of these types.
 fn locals_of(alloc: Global, body: &TypedBody, types: &[Ty]) -> Result<Vec<Local>, AllocError>
     ensures { IfOk result (λ ls. map core.local_of ls.items ≡ (typed.body body.now).locals ++ bodies.copies (typed.body body.now) ++ bodies.temporaries_from 0 types.now) }
 {

@@ -57,8 +57,8 @@ fn add_with_implied(
     Ok(reached)
 }
 
-// Adds the statements of the block, behind the call of the constructor above that the heading writes.
-fn add_behind_base(
+// Adds the statements of the block, after the call of the constructor above that the heading writes.
+fn add_after_base(
     context: &ElaborationContext<'_>,
     base: &TypedBase,
     stmts: &[TypedStmt],
@@ -87,7 +87,7 @@ fn add_with_base(
     ensures ends { IfOk result (λ reached. reached ≡ ends.all_can_end (constructors.with_base (typed.typed context.now.program.now) (typed.body context.now.body.now) (option_map typed.base base.now) (stmt_trees (map typed.stmt_of stmts.now)))) }
 {
     match base {
-        Some(base) => add_behind_base(context, base, stmts, code, made),
+        Some(base) => add_after_base(context, base, stmts, code, made),
         None => {
             if has_base(stmts) {
                 add_stmts(context, stmts, code, made)

@@ -8,7 +8,7 @@ ghost use Rattle.ss_expand_rules.specs.Code.{after};
 ghost use Rattle.ss_expand_rules.specs.Lifting as lifting;
 ghost use Rattle.ss_expand_rules.specs.Statements as statements;
 ghost use Rattle.ss_expand_expressions.specs.Operands.{valued_as};
-ghost use Rattle.ss_expand_expressions.specs.Sources.{stmts_of, valued_behind};
+ghost use Rattle.ss_expand_expressions.specs.Sources.{stmts_of, valued_after};
 ghost use Rattle.ss_expand_bodies.specs.Exposes.{opened_of};
 ghost use Rattle.ss_expand_lifting.specs.Made.{coded_by};
 ghost use Rattle.ss_expand_lifting.specs.Contexts.{context_of};
@@ -39,7 +39,7 @@ fn put_object(
     made: &mut Vec<Ty>,
 ) -> Result<usize, AllocError>
     ensures kept { IfOk result (λ x. valued_as (stmts_of code.new.statements) (LocalExpr (shapes.place_of (typed.expr e.now)) x) made.new.items
-        ≡ valued_behind (stmts_of code.old.statements) (object_of (context_of context.now) (typed.expr e.now) made.old.items)) }
+        ≡ valued_after (stmts_of code.old.statements) (object_of (context_of context.now) (typed.expr e.now) made.old.items)) }
     ensures number { IfOk result (λ x. x ≡ lifting.next (context_of context.now).numbers (lifting.right_side (context_of context.now) (typed.expr e.now) made.old.items).made) }
 {
     let source = right_side(context, e, code, made)?;

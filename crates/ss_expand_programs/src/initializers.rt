@@ -92,7 +92,7 @@ fn add_initial(
 }
 
 // The number of the next field. There is no room for so many that it doesn't fit.
-fn number_behind(number: u32) -> Result<u32, AllocError>
+fn number_after(number: u32) -> Result<u32, AllocError>
     ensures { IfOk result (λ n. n ≡ number + 1) }
 {
     number.checked_add(1).ok_or(AllocError)
@@ -112,7 +112,7 @@ fn add_fields(
     let mut number = first;
     for field in fields {
         add_initial(context, FieldId(number), field, code, made)?;
-        number = number_behind(number)?;
+        number = number_after(number)?;
     }
     Ok(())
 }

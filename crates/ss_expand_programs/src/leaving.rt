@@ -7,7 +7,7 @@ ghost use Rattle.ss_typed.specs.View as typed;
 ghost use Rattle.ss_expand_rules.specs.Code.{after};
 ghost use Rattle.ss_expand_rules.specs.Lifting as lifting;
 ghost use Rattle.ss_expand_rules.specs.Statements as statements;
-ghost use Rattle.ss_expand_expressions.specs.Sources.{stmts_of, valued_by, valued_behind};
+ghost use Rattle.ss_expand_expressions.specs.Sources.{stmts_of, valued_by, valued_after};
 ghost use Rattle.ss_expand_lifting.specs.Made.{coded_by};
 ghost use Rattle.ss_expand_lifting.specs.Contexts.{context_of};
 ghost use Rattle.ss_expand_programs.specs.Returns.{returned_value};
@@ -64,7 +64,7 @@ fn kept_result(
     made: &mut Vec<Ty>,
 ) -> Result<Expr, AllocError>
     ensures { IfOk result (λ v. valued_by code.new.statements made.new v
-        ≡ valued_behind (stmts_of code.old.statements) (statements.kept_result (context_of context.now) (typed.expr e.now) (lifting.right_side (context_of context.now) (typed.expr e.now) made.old.items))) }
+        ≡ valued_after (stmts_of code.old.statements) (statements.kept_result (context_of context.now) (typed.expr e.now) (lifting.right_side (context_of context.now) (typed.expr e.now) made.old.items))) }
 {
     let source = right_side(context, e, code, made)?;
     let ty = result_type(context.body.result);
@@ -82,7 +82,7 @@ fn returned_value(
     made: &mut Vec<Ty>,
 ) -> Result<Expr, AllocError>
     ensures { IfOk result (λ v. valued_by code.new.statements made.new v
-        ≡ valued_behind (stmts_of code.old.statements) (returned_value (context_of context.now) (typed.expr e.now) made.old.items)) }
+        ≡ valued_after (stmts_of code.old.statements) (returned_value (context_of context.now) (typed.expr e.now) made.old.items)) }
 {
     match context.exposes.as_slice() {
         [] => value(context, e, code, made),

@@ -9,7 +9,7 @@ ghost use Rattle.ss_expand_rules.specs.Code.{after, nothing};
 ghost use Rattle.ss_expand_rules.specs.Lifting as lifting;
 ghost use Rattle.ss_expand_rules.specs.Statements as statements;
 ghost use Rattle.ss_expand_expressions.specs.Views.{numbers_of};
-ghost use Rattle.ss_expand_expressions.specs.Sources.{stmts_of, valued_by, valued_behind};
+ghost use Rattle.ss_expand_expressions.specs.Sources.{stmts_of, valued_by, valued_after};
 ghost use Rattle.ss_expand_bodies.specs.Exposes.{opened_of};
 ghost use Rattle.ss_expand_lifting.specs.Made.{coded_by};
 ghost use Rattle.ss_expand_lifting.specs.Contexts.{context_of};
@@ -67,7 +67,7 @@ pub fn boxed_value(
     made: &mut Vec<Ty>,
 ) -> Result<Box<Expr>, AllocError>
     ensures { IfOk result (λ v. valued_by code.new.statements made.new v.value
-        ≡ valued_behind (stmts_of code.old.statements) (lifting.value (context_of context.now) (typed.expr e.now) made.old.items)) }
+        ≡ valued_after (stmts_of code.old.statements) (lifting.value (context_of context.now) (typed.expr e.now) made.old.items)) }
 {
     let value = value(context, e, code, made)?;
     let kept = boxed(context.alloc, value)?;
@@ -164,7 +164,7 @@ pub fn test_of(
     made: &mut Vec<Ty>,
 ) -> Result<Box<Expr>, AllocError>
     ensures { IfOk result (λ v. valued_by code.new.statements made.new v.value
-        ≡ valued_behind (stmts_of code.old.statements) (tested (context_of context.now) place (option_map typed.expr test.now) made.old.items)) }
+        ≡ valued_after (stmts_of code.old.statements) (tested (context_of context.now) place (option_map typed.expr test.now) made.old.items)) }
 {
     match test {
         Some(e) => boxed_value(context, e, code, made),

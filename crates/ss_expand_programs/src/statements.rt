@@ -267,7 +267,7 @@ fn add_block(
     add_stmts(context, &block.statements, code, made)
 }
 
-/// Adds the statements: those behind one whose end can't be reached are dropped. The result says whether the end of all can be
+/// Adds the statements: those after one whose end can't be reached are dropped. The result says whether the end of all can be
 /// reached.
 #[cycle(statements)]
 pub fn add_stmts(

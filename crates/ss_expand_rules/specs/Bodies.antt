@@ -113,7 +113,7 @@ elaboration_context p b temporaries = record { program = p; body = b; numbers = 
 abbrev pub code_with : TypedTree → BodyTree → ℕ → Coded
 code_with p b temporaries = stmts (elaboration_context p b temporaries) (statements p b) []
 
--- The names of quantifiers come behind all temporaries, so these are counted first; how many there are doesn't depend on it.
+-- The names of quantifiers come after all temporaries, so these are counted first; how many there are doesn't depend on it.
 abbrev pub temporary_types : TypedTree → BodyTree → List Ty
 temporary_types p b = (code_with p b 0).made
 

@@ -17,10 +17,10 @@ just stmt made = record { code = stmt ∷ []; made = made }
 abbrev pub after : List core.StmtTree → Coded → Coded
 after code c = record c { code = code ++ c.code }
 
--- code, and behind it what is made of the temporaries so far
+-- code, and after it what is made of the temporaries so far
 abbrev pub then_code : Coded → (List Ty → Coded) → Coded
 then_code c more = after c.code (more c.made)
 
--- the statement behind it
+-- the statement after it
 abbrev pub and_then : List core.StmtTree → core.StmtTree → List Ty → Coded
 and_then code stmt made = record { code = code ++ stmt ∷ []; made = made }

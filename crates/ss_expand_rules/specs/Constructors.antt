@@ -45,10 +45,10 @@ initializers p t = initializers_in p t (members_of p t)
 
 -- ---- the implicit base call
 
--- behind the longest run of assignments to fields of the class at the front
-abbrev pub behind_initial : TypedTree → ℕ → StmtTree → StmtTrees → StmtTrees
-behind_initial p t s typed.NoMore = typed.Before s typed.NoMore
-behind_initial p t s (typed.Before first ss) = if is_first p t first then typed.Before first (behind_initial p t s ss) else typed.Before s (typed.Before first ss)
+-- after the longest run of assignments to fields of the class at the front
+abbrev pub after_initial : TypedTree → ℕ → StmtTree → StmtTrees → StmtTrees
+after_initial p t s typed.NoMore = typed.Before s typed.NoMore
+after_initial p t s (typed.Before first ss) = if is_first p t first then typed.Before first (after_initial p t s ss) else typed.Before s (typed.Before first ss)
 
 -- `base()`, at the constructor's name
 abbrev pub base_alone : BodyTree → StmtTree
@@ -58,13 +58,13 @@ abbrev pub base_above : BaseTree → StmtTree
 base_above base = SimpleOf (BaseCallOf base.place base.arguments)
 
 -- Implicit base call: one that the heading writes stands first, and so does one that nothing writes; but in a constructor that isn't delayed
--- that one stands behind the assignments with which the block begins.
+-- that one stands after the assignments with which the block begins.
 abbrev pub with_base : TypedTree → BodyTree → Option BaseTree → StmtTrees → StmtTrees
 with_base p b (Some base) ss = typed.Before (base_above base) ss
 with_base p b None ss =
     if has_base ss then ss
     else if b.flags.delayed then typed.Before (base_alone b) ss
-    else behind_initial p b.class (base_alone b) ss
+    else after_initial p b.class (base_alone b) ss
 
 -- the statements of a constructor
 abbrev pub constructor_stmts : TypedTree → BodyTree → StmtTrees

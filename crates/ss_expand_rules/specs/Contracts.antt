@@ -27,7 +27,7 @@ of_argument b x = if b.flags.pure then FullArgument x else ConsistentArgument x
 abbrev pub where_asked : Bool → DefaultTree → List DefaultTree
 where_asked asked d = if asked then d ∷ [] else []
 
--- Capture condition: that of a captured parameter stands behind its argument's own, whatever else the method is marked.
+-- Capture condition: that of a captured parameter stands after its argument's own, whatever else the method is marked.
 abbrev pub of_param : BodyTree → ℕ → ParamTree → List DefaultTree
 of_param b x q =
     where_asked (is_class_type q.ty && not b.flags.no_default_contract) (of_argument b x) ++ where_asked q.captured (Captured x (not b.flags.is_static))

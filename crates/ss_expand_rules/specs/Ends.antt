@@ -8,7 +8,7 @@ abbrev pub is_always : Option ExprTree → Bool
 is_always None = true
 is_always (Some e) = is_true e
 
--- It can't behind a `return`, behind a block with such a statement, behind an `if` with two such sides, and behind a loop that has the
+-- It can't after a `return`, after a block with such a statement, after an `if` with two such sides, and after a loop that has the
 -- literal `true` for its test.
 abbrev mutual
   pub can_end : StmtTree → Bool

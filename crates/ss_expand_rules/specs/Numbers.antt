@@ -4,7 +4,7 @@ use Rattle.ss_core.specs.Tree as core
 use Rattle.ss_core.specs.Tree.{IntExpr, BoolExpr, NullExpr, LocalExpr, FieldExpr, ElementExpr, LengthExpr, NegateExpr, NotExpr, BinaryExpr, ImpliesExpr, IffExpr, IsExpr, AsExpr, CastExpr, OldExpr, QuantifiedExpr, StateExpr, OwnersExpr}
 use Rattle.ss_typed.specs.Tree.{ExprTree, IntOf, BoolOf, NullOf, ThisOf, LocalOf, ResultOf, BoundOf, IffOf, ImpliesOf, BinaryOf, IsOf, AsOf, NegateOf, NotOf, CastOf, FieldOf, ElementOf, LengthOf, OldOf, QuantifiedOf, StateOf, OwnersOf, NewOf, NewArrayOf, CallOf, StaticOf, BaseOf, Arguments, NoMore, Argument}
 
--- What the locals of a body have for numbers. `this`, the parameters and the declared locals keep theirs. Behind them stand the copies
+-- What the locals of a body have for numbers. `this`, the parameters and the declared locals keep theirs. After them stand the copies
 -- of the parameters that the body assigns, then the temporaries, then the result, and then the names of quantifiers.
 pub record Numbers : Type 0 where
   -- what `this` and each parameter is meant by: itself, or its copy

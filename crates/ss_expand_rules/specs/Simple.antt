@@ -81,17 +81,17 @@ settle s target made = record { code = []; target = target; made = made }
 
 -- ---- assignments
 
--- behind what settles it
-abbrev pub assign_behind : ElaborationContext → ExprTree → Settled → Coded
-assign_behind s e target = after target.code (assign_settled s target.target e target.made)
+-- after what settles it
+abbrev pub assign_after : ElaborationContext → ExprTree → Settled → Coded
+assign_after s e target = after target.code (assign_settled s target.target e target.made)
 
 -- Where a call stands on either side, the parts of the left side are evaluated before the right side.
 abbrev pub assign : ElaborationContext → ExprTree → ExprTree → List Ty → Coded
-assign s target e made = if has_call target || has_call e then assign_behind s e (settle s target made) else assign_settled s target e made
+assign s target e made = if has_call target || has_call e then assign_after s e (settle s target made) else assign_settled s target e made
 
 -- Compound assignment: `p op= e` is `p = p op e`, with the parts of p evaluated once.
 abbrev pub update_settled : ElaborationContext → Operator → ExprTree → Settled → Coded
-update_settled s o e target = assign_behind s (BinaryOf (place_of target.target) o target.target e) target
+update_settled s o e target = assign_after s (BinaryOf (place_of target.target) o target.target e) target
 
 abbrev pub update : ElaborationContext → Operator → ExprTree → ExprTree → List Ty → Coded
 update s o target e made = update_settled s o e (settle s target made)
@@ -151,17 +151,17 @@ print s p (Some e) line made = print_value p line (value s e made)
 abbrev pub has_delayed_constructor : TypedTree → ℕ → Bool
 has_delayed_constructor p t = is_delayed_body (constructor_of p t)
 
--- Ready behind a delayed base: in a constructor that isn't delayed, `this` is ready once a delayed base constructor is done.
-abbrev pub ready_behind : ElaborationContext → Place → ℕ → List core.StmtTree
-ready_behind s p t = if s.body.flags.delayed then [] else if has_delayed_constructor s.program t then ReadyStmt p ∷ [] else []
+-- Ready after a delayed base: in a constructor that isn't delayed, `this` is ready once a delayed base constructor is done.
+abbrev pub ready_after : ElaborationContext → Place → ℕ → List core.StmtTree
+ready_after s p t = if s.body.flags.delayed then [] else if has_delayed_constructor s.program t then ReadyStmt p ∷ [] else []
 
 abbrev pub base_with : ElaborationContext → Place → ℕ → Listed → Coded
-base_with s p t l = record { code = l.code ++ CallStmt p None (BaseConstructor (number_of s.program (Constructor t))) l.values ∷ ready_behind s p t; made = l.made }
+base_with s p t l = record { code = l.code ++ CallStmt p None (BaseConstructor (number_of s.program (Constructor t))) l.values ∷ ready_after s p t; made = l.made }
 
 -- No call of the constructor of `object`.
 abbrev pub base_of : ElaborationContext → Place → Arguments → ℕ → List Ty → Coded
 base_of s p es t made =
-    if t == 0 then record { code = ready_behind s p t; made = made }
+    if t == 0 then record { code = ready_after s p t; made = made }
     else base_with s p t (arguments_of s (param_types_in (constructor_of s.program t)) es made)
 
 abbrev pub base_call : ElaborationContext → Place → Arguments → List Ty → Coded

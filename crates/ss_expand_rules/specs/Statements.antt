@@ -143,7 +143,7 @@ abbrev mutual
   pub block : ElaborationContext → BlockTree → List Ty → Coded
   block s (BlockOf p ss end) made = stmts s ss made
 
-  -- Statements behind one whose end can't be reached are dropped.
+  -- Statements after one whose end can't be reached are dropped.
   pub stmts : ElaborationContext → StmtTrees → List Ty → Coded
   stmts s NoMore made = nothing made
   stmts s (Before x xs) made = then_code (stmt s x made) (if can_end x then stmts s xs else nothing)

@@ -9,7 +9,7 @@ ghost use Rattle.ss_frames.specs.Calls.{declaring_class, declaring_classes};
 use ss_core::{Class, ClassId, Classes};
 use std::alloc::{AllocError, Global};
 
-// The number of the class, once for each field that it declares, behind the others.
+// The number of the class, once for each field that it declares, after the others.
 fn add_class(made: &mut Vec<u16>, number: u16, class: &Class) -> Result<(), AllocError>
     ensures { OnOk result (made.new.items ≡ made.old.items ++ map declaring_class (fields_of_class number (view.class_of class.now).fields)) }
 {

@@ -1,4 +1,4 @@
--- A choice by the first token, where one side has no single token at its front: f knows the token, and K goes on behind it; else L.
+-- A choice by the first token, where one side has no single token at its front: f knows the token, and K goes on after it; else L.
 use Rattle.std.proofs.Common.{◌≡◌, ℕ, suc, ◌<◌, List, [], ◌∷◌, ◌++◌, Option, Some, None, Result, Ok, Err, Bool, true, false, refl, sym, subst, ◌∙◌}
 use Rattle.std.specs.Prelude.{◌||◌}
 use Rattle.ss_grammar.specs.declared.fault.Fault.{Fault}
@@ -9,12 +9,12 @@ use Rattle.ss_grammar.proofs.Good.{Good, any_token, some_at}
 use Rattle.ss_grammar.proofs.Finding.{find_lead}
 use Rattle.ss_grammar.proofs.Knot.{ReadsTo}
 
--- behind a known token K, from any other token on L
+-- after a known token K, from any other token on L
 abbrev pub CaseAs : {T A B : Type 0} → Option B → (B → List T → A → Type 0) → (List T → A → Type 0) → T → List T → A → Type 0
 CaseAs None K L t ts v = L (t ∷ ts) v
 CaseAs (Some b) K L t ts v = K b ts v
 
--- K behind a token that f knows, else L
+-- K after a token that f knows, else L
 abbrev pub Case : {T A B : Type 0} → (T → Option B) → (B → List T → A → Type 0) → (List T → A → Type 0) → List T → A → Type 0
 Case f K L [] v = L [] v
 Case f K L (t ∷ ts) v = CaseAs (f t) K L t ts v
@@ -24,7 +24,7 @@ abbrev pub case_as : {T A B : Type 0} → Option B → (B → List T → Result 
 case_as None k p t ts = p (t ∷ ts)
 case_as (Some b) k p t ts = k b ts
 
--- reading K behind a token that f knows, else L
+-- reading K after a token that f knows, else L
 abbrev pub case_of : {T A B : Type 0} → (T → Option B) → (B → List T → Result (A × List T) (Fault × List T)) → (List T → Result (A × List T) (Fault × List T)) → List T → Result (A × List T) (Fault × List T)
 case_of f k p [] = p []
 case_of f k p (t ∷ ts) = case_as (f t) k p t ts

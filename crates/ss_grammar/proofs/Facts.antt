@@ -64,7 +64,7 @@ pub and_both : (a b : Bool) → a ≡ true → b ≡ true → (a && b) ≡ true
 and_both true b e f = f
 and_both false b e f = absurd cc
 
--- ---- one token, and what is read behind it
+-- ---- one token, and what is read after it
 
 module _ {T A B : Type 0} (f : T → Option B) (K : B → List T → A → Type 0) (first goes : T → Bool) (empty : Bool) (facts : (b : B) → Facts (K b) first goes empty) where
   after_one : (o : Option B) (u : List T) (v w : A) → After o K u v → After o K u w → v ≡ w

@@ -77,7 +77,7 @@ module _ {T A : Type 0} (L : ℕ → List T → A → Type 0) where
       again [] en = tt
       again (t ∷ rest) en = en
 
--- ---- one token, and what is read behind it
+-- ---- one token, and what is read after it
 
 module _ {T A B : Type 0} (f : T → Option B) (K : B → ℕ → List T → A → Type 0) where
   abbrev takes : ℕ → List T → A → Type 0

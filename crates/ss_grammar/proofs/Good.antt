@@ -46,7 +46,7 @@ pub inside_grows : {T A : Type 0} (L : ℕ → List T → A → Type 0) → Grow
 inside_grows L grows zero ts v p = absurd p
 inside_grows L grows (suc d) ts v p = grows d ts v p
 
--- ---- one token, and what is read behind it
+-- ---- one token, and what is read after it
 
 after_in : {T A B : Type 0} (o : Option B) (K M : B → List T → A → Type 0) → ((b : B) (ts : List T) (v : A) → K b ts v → M b ts v) → (ts : List T) (v : A) → After o K ts v → After o M ts v
 after_in None K M h ts v p = p
@@ -150,7 +150,7 @@ many_good_of f join K first goes empty facts grows apart a = record {
   some = record { more = []; value = a; reads = (0, (refl, refl)) };
 }
 
--- where each takes a token at least behind the one that is known
+-- where each takes a token at least after the one that is known
 pub many_good : {T A B R : Type 0} (f : T → Option B) (join : A → B → R → A) (K : B → ℕ → List T → R → Type 0) (first goes : T → Bool) (facts : (b : B) → Facts (Any (K b)) first goes false) (grows : (b : B) → Grows (K b)) (apart : (t : T) → goes t ≡ true → known (f t) ≡ true → ⊥) (a : A) → Good (λ d. Many f (λ b. K b d) join a) (λ t. known (f t)) (λ t. known (f t) || goes t) true
 many_good f join K first goes facts grows apart a = many_good_of f join K first goes false facts grows apart a
 

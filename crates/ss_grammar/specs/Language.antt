@@ -8,12 +8,12 @@ use Rattle.ss_grammar.specs.declared.fault.Fault.TheVariants.{Expected, TooDeep}
 abbrev pub Done : {T A : Type 0} → A → List T → A → Type 0
 Done a ts v = (ts ≡ []) × (v ≡ a)
 
--- what is read behind a token, where it was known
+-- what is read after a token, where it was known
 abbrev pub After : {T A B : Type 0} → Option B → (B → List T → A → Type 0) → List T → A → Type 0
 After None K ts v = ⊥
 After (Some b) K ts v = K b ts v
 
--- one token that f knows, and what is read behind it
+-- one token that f knows, and what is read after it
 abbrev pub Take : {T A B : Type 0} → (T → Option B) → (B → List T → A → Type 0) → List T → A → Type 0
 Take f K [] v = ⊥
 Take f K (t ∷ ts) v = After (f t) K ts v
@@ -32,7 +32,7 @@ pub record Bind {T A B : Type 0} (L : List T → A → Type 0) (K : A → List T
   pub reads : L front first
   pub goes_on : K first back v
 
--- at most n times one more: a token that f knows, what is read behind it, and join makes the next value of the value so far
+-- at most n times one more: a token that f knows, what is read after it, and join makes the next value of the value so far
 abbrev pub Times : {T A B R : Type 0} → (T → Option B) → (B → List T → R → Type 0) → (A → B → R → A) → ℕ → A → List T → A → Type 0
 Times f K join zero a ts v = Done a ts v
 Times f K join (suc n) a ts v = Maybe f (λ b. Bind (K b) (λ r. Times f K join n (join a b r))) a ts v

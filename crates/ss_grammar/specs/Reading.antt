@@ -13,7 +13,7 @@ abbrev pub ◌>>=◌ : {T A B : Type 0} → Result (A × List T) (Fault × List 
 (Ok x) >>= f = f x
 (Err e) >>= f = Err e
 
--- k behind a token that was known, else the other answer
+-- k after a token that was known, else the other answer
 abbrev pub after : {T A B : Type 0} → Option B → (B → List T → Result (A × List T) (Fault × List T)) → Result (A × List T) (Fault × List T) → List T → Result (A × List T) (Fault × List T)
 after None k other ts = other
 after (Some b) k other ts = k b ts
@@ -38,17 +38,17 @@ abbrev pub ahead : {T : Type 0} → (T → Bool) → List T → Bool
 ahead f [] = false
 ahead f (t ∷ ts) = f t
 
--- the known token with what is behind it
+-- the known token with what is after it
 abbrev pub seen_as : {T B : Type 0} → Option B → List T → Option (B × List T)
 seen_as None ts = None
 seen_as (Some b) ts = Some (b, ts)
 
--- the token in front, where f knows it, and what is behind it
+-- the token in front, where f knows it, and what is after it
 abbrev pub seen : {T B : Type 0} → (T → Option B) → List T → Option (B × List T)
 seen f [] = None
 seen f (t ∷ ts) = seen_as (f t) ts
 
--- what k reads behind a known token
+-- what k reads after a known token
 abbrev pub one_more_as : {T A B : Type 0} → Option B → (B → List T → Result (A × List T) (Fault × List T)) → List T → Option (Result (A × List T) (Fault × List T))
 one_more_as None k ts = None
 one_more_as (Some b) k ts = Some (k b ts)

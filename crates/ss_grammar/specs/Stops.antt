@@ -25,7 +25,7 @@ abbrev pub GivesRest : {T X : Type 0} → (X → List T) → Result X Stop → R
 GivesRest rest (Ok x) found = found ≡ Ok (tt, rest x)
 GivesRest rest (Err e) found = Fails e found
 
--- a token was there, and this is left behind it
+-- a token was there, and this is left after it
 abbrev pub SeesRest : {T X : Type 0} → (X → List T) → Option X → Option (Unit {0} × List T) → Type 0
 SeesRest rest (Some x) found = found ≡ Some (tt, rest x)
 SeesRest rest None found = found ≡ None

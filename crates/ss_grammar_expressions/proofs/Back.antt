@@ -1,4 +1,4 @@
--- A cast, as one production, is what stands behind a `(`.
+-- A cast, as one production, is what stands after a `(`.
 use Rattle.std.proofs.Common.{◌≡◌, ℕ, zero, suc, List, [], ◌∷◌, ◌++◌, Option, Some, None, Bool, true, false, refl, sym, ap, subst, ◌∙◌, ◌⊎◌, inl, inr}
 use Rattle.ss_core.specs.declared.names.Place.{Place}
 use Rattle.ss_ast.specs.declared.token.Word.{Word}
@@ -9,21 +9,21 @@ use Rattle.ss_ast.specs.Tokens.{Kind, AWord, ASymbol, AName, ANumber, AText, AnE
 use Rattle.ss_ast.specs.Expressions.{NameTree, TypeTree, ExprTree, IntType, BoolType, ObjectType, ElementOf}
 use Rattle.ss_grammar.specs.Language.{Done, After, Take, Bind}
 use Rattle.ss_grammar_expressions.specs.First.{Nothing, Chosen}
-use Rattle.ss_grammar_expressions.specs.Heads.{Piece, AToken, LeftOut, is, found, the, TypeHead, type_head, castable, NamedHead, BangBehind, BracketBehind, named_head}
-use Rattle.ss_grammar_expressions.specs.Grammar.{TheExpression, TheTypeEnd, TheNamed, Parts, NoParts, AtLevel, Enclosed, AType, AnExpr, type_of, head_of, named, Deeper, Brackets, BangEnd, TypeEnd, IndexEnd, CastEnd, CastOnly, AfterParen, BareEnd, Closed, NameBehind, Paren, RestOf, ElementOrArray, NamedBehind, Named}
+use Rattle.ss_grammar_expressions.specs.Heads.{Piece, AToken, LeftOut, is, found, the, TypeHead, type_head, castable, NamedHead, BangAfter, BracketAfter, named_head}
+use Rattle.ss_grammar_expressions.specs.Grammar.{TheExpression, TheTypeEnd, TheNamed, Parts, NoParts, AtLevel, Enclosed, AType, AnExpr, type_of, head_of, named, Deeper, Brackets, BangEnd, TypeEnd, IndexEnd, CastEnd, CastOnly, AfterParen, BareEnd, Closed, NameAfter, Paren, RestOf, ElementOrArray, NamedAfter, Named}
 use Rattle.ss_grammar_expressions.specs.Written.{InnerType, Casted}
 
 -- ---- what the symbols say
 
-bang_symbol : (p : Place) (s : Symbol) (z : Place) → the symbol.Bang (AToken (record { kind = ASymbol s; place = p })) ≡ Some z → named_head (AToken (record { kind = ASymbol s; place = p })) ≡ Some BangBehind
+bang_symbol : (p : Place) (s : Symbol) (z : Place) → the symbol.Bang (AToken (record { kind = ASymbol s; place = p })) ≡ Some z → named_head (AToken (record { kind = ASymbol s; place = p })) ≡ Some BangAfter
 bang_symbol p symbol.Bang z e = refl
 bang_symbol p _ z e = absurd cc
 
-the_bang : (u : Piece) (z : Place) → the symbol.Bang u ≡ Some z → named_head u ≡ Some BangBehind
+the_bang : (u : Piece) (z : Place) → the symbol.Bang u ≡ Some z → named_head u ≡ Some BangAfter
 the_bang LeftOut z e = absurd cc
 the_bang (AToken t) z e = at t.kind t.place e
   where
-    at : (c : Kind) (p : Place) → the symbol.Bang (AToken (record { kind = c; place = p })) ≡ Some z → named_head (AToken (record { kind = c; place = p })) ≡ Some BangBehind
+    at : (c : Kind) (p : Place) → the symbol.Bang (AToken (record { kind = c; place = p })) ≡ Some z → named_head (AToken (record { kind = c; place = p })) ≡ Some BangAfter
     at (ASymbol s) p e = bang_symbol p s z e
     at (AWord w) p e = absurd cc
     at (AName x) p e = absurd cc
@@ -31,15 +31,15 @@ the_bang (AToken t) z e = at t.kind t.place e
     at (AText x) p e = absurd cc
     at AnEnd p e = absurd cc
 
-open_symbol : (p : Place) (s : Symbol) (z : Place) → the symbol.OpenBracket (AToken (record { kind = ASymbol s; place = p })) ≡ Some z → named_head (AToken (record { kind = ASymbol s; place = p })) ≡ Some BracketBehind
+open_symbol : (p : Place) (s : Symbol) (z : Place) → the symbol.OpenBracket (AToken (record { kind = ASymbol s; place = p })) ≡ Some z → named_head (AToken (record { kind = ASymbol s; place = p })) ≡ Some BracketAfter
 open_symbol p symbol.OpenBracket z e = refl
 open_symbol p _ z e = absurd cc
 
-the_open : (u : Piece) (z : Place) → the symbol.OpenBracket u ≡ Some z → named_head u ≡ Some BracketBehind
+the_open : (u : Piece) (z : Place) → the symbol.OpenBracket u ≡ Some z → named_head u ≡ Some BracketAfter
 the_open LeftOut z e = absurd cc
 the_open (AToken t) z e = at t.kind t.place e
   where
-    at : (c : Kind) (p : Place) → the symbol.OpenBracket (AToken (record { kind = c; place = p })) ≡ Some z → named_head (AToken (record { kind = c; place = p })) ≡ Some BracketBehind
+    at : (c : Kind) (p : Place) → the symbol.OpenBracket (AToken (record { kind = c; place = p })) ≡ Some z → named_head (AToken (record { kind = c; place = p })) ≡ Some BracketAfter
     at (ASymbol s) p e = open_symbol p s z e
     at (AWord w) p e = absurd cc
     at (AName x) p e = absurd cc
@@ -64,7 +64,7 @@ not_close (AToken t) h e = at t.kind t.place e
     at (AText x) p e = absurd cc
     at AnEnd p e = absurd cc
 
--- ---- the end of a type behind a name
+-- ---- the end of a type after a name
 
 -- it begins with a `!` or a `[`, and is read by this
 record IsNamed (L : List Piece → Enclosed → Type 0) (ts : List Piece) (t : TypeTree) : Type 0 where
@@ -79,14 +79,14 @@ record IsNamed (L : List Piece → Enclosed → Type 0) (ts : List Piece) (t : T
 abbrev Told : NameTree → (List Piece → Enclosed → Type 0) → List Piece → TypeTree → Type 0
 Told n L ts t = ((ts ≡ []) × (t ≡ type_of (head_of n) false false)) ⊎ IsNamed L ts t
 
-behind : (o : Bool) (V : Parts) (n : NameTree) (u : Piece) (us : List Piece) (t : TypeTree) (h : NamedHead) → named_head u ≡ Some h → NamedBehind o V n h us (AType t) → IsNamed (Named o V n) (u ∷ us) t
+behind : (o : Bool) (V : Parts) (n : NameTree) (u : Piece) (us : List Piece) (t : TypeTree) (h : NamedHead) → named_head u ≡ Some h → NamedAfter o V n h us (AType t) → IsNamed (Named o V n) (u ∷ us) t
 behind o V n u us t h e q = record {
   token = u;
   rest = us;
   parts = refl;
   head = h;
   headed = e;
-  reads = subst (λ (x : Option NamedHead). Chosen (found x) (Take named_head (NamedBehind o V n)) (Bind (RestOf o V n.place (named n)) (λ y. Done (AnExpr y))) (u ∷ us) (AType t)) (sym e) (subst (λ (x : Option NamedHead). After x (NamedBehind o V n) us (AType t)) (sym e) q);
+  reads = subst (λ (x : Option NamedHead). Chosen (found x) (Take named_head (NamedAfter o V n)) (Bind (RestOf o V n.place (named n)) (λ y. Done (AnExpr y))) (u ∷ us) (AType t)) (sym e) (subst (λ (x : Option NamedHead). After x (NamedAfter o V n) us (AType t)) (sym e) q);
 }
 
 -- at most a `!`
@@ -96,11 +96,11 @@ only_bang o V n b (u ∷ us) back s t f q d = at (the symbol.Bang u) refl q
   where
     at : (x : Option Place) → the symbol.Bang u ≡ x → After x (λ _. Done true) us s → Told n (Named o V n) (u ∷ (us ++ back)) t
     at None e r = absurd r
-    at (Some z) e r = inr (behind o V n u (us ++ back) t BangBehind (the_bang u z e) (ap (λ (y : List Piece). y ++ back) r.0 ∙ d.0, ap AType (d.1 ∙ ap (λ (x : Bool). type_of (head_of n) x s) f ∙ ap (λ (x : Bool). type_of (head_of n) false x) r.1)))
+    at (Some z) e r = inr (behind o V n u (us ++ back) t BangAfter (the_bang u z e) (ap (λ (y : List Piece). y ++ back) r.0 ∙ d.0, ap AType (d.1 ∙ ap (λ (x : Bool). type_of (head_of n) x s) f ∙ ap (λ (x : Bool). type_of (head_of n) false x) r.1)))
 
--- behind a `[`
-array_behind : (V : Parts) (n : NameTree) (c : Piece) (z : Place) → the symbol.CloseBracket c ≡ Some z → (cs : List Piece) (b : Bool) → (cs ≡ []) × (b ≡ true) → (back : List Piece) (t : TypeTree) → Bind BangEnd (λ s. Done (type_of (head_of n) b s)) back t → ElementOrArray true V n (c ∷ (cs ++ back)) (AType t)
-array_behind V n c z e cs b d back t r =
+-- after a `[`
+array_after : (V : Parts) (n : NameTree) (c : Piece) (z : Place) → the symbol.CloseBracket c ≡ Some z → (cs : List Piece) (b : Bool) → (cs ≡ []) × (b ≡ true) → (back : List Piece) (t : TypeTree) → Bind BangEnd (λ s. Done (type_of (head_of n) b s)) back t → ElementOrArray true V n (c ∷ (cs ++ back)) (AType t)
+array_after V n c z e cs b d back t r =
     subst (λ (x : Option Place). Chosen (found x) (Take (the symbol.CloseBracket) (λ _. Bind BangEnd (λ s. Done (AType (type_of (head_of n) true s))))) (Bind (IndexEnd (V TheExpression)) (λ i. Bind (RestOf true V n.place (ElementOf n.place (named n) i)) (λ y. Done (AnExpr y)))) (c ∷ (cs ++ back)) (AType t)) (sym e)
     (subst (λ (x : Option Place). After x (λ _. Bind BangEnd (λ s. Done (AType (type_of (head_of n) true s)))) (cs ++ back) (AType t)) (sym e) (record {
       first = r.first;
@@ -111,14 +111,14 @@ array_behind V n c z e cs b d back t r =
       goes_on = (r.goes_on.0, ap AType (r.goes_on.1 ∙ ap (λ (x : Bool). type_of (head_of n) x r.first) d.1));
     }))
 
-bracketed : (o : Bool) (V : Parts) (n : NameTree) (u : Piece) → named_head u ≡ Some BracketBehind → (us : List Piece) (b : Bool) → Deeper o (Take (the symbol.CloseBracket) (λ _. Done true)) us b → (back : List Piece) (t : TypeTree) → Bind BangEnd (λ s. Done (type_of (head_of n) b s)) back t → IsNamed (Named o V n) (u ∷ (us ++ back)) t
+bracketed : (o : Bool) (V : Parts) (n : NameTree) (u : Piece) → named_head u ≡ Some BracketAfter → (us : List Piece) (b : Bool) → Deeper o (Take (the symbol.CloseBracket) (λ _. Done true)) us b → (back : List Piece) (t : TypeTree) → Bind BangEnd (λ s. Done (type_of (head_of n) b s)) back t → IsNamed (Named o V n) (u ∷ (us ++ back)) t
 bracketed false V n u e us b q back t r = absurd q
 bracketed true V n u e [] b q back t r = absurd q
 bracketed true V n u e (c ∷ cs) b q back t r = at (the symbol.CloseBracket c) refl q
   where
     at : (x : Option Place) → the symbol.CloseBracket c ≡ x → After x (λ _. Done true) cs b → IsNamed (Named true V n) (u ∷ c ∷ (cs ++ back)) t
     at None h d = absurd d
-    at (Some z) h d = behind true V n u (c ∷ (cs ++ back)) t BracketBehind e (array_behind V n c z h cs b d back t r)
+    at (Some z) h d = behind true V n u (c ∷ (cs ++ back)) t BracketAfter e (array_after V n c z h cs b d back t r)
 
 told : (o : Bool) (V : Parts) (n : NameTree) (ts : List Piece) (t : TypeTree) → TypeEnd o (head_of n) ts t → Told n (Named o V n) ts t
 told o V n ts t q = subst (λ (y : List Piece). Told n (Named o V n) y t) (sym q.parts) (at q.front q.reads)
@@ -135,7 +135,7 @@ at_level : (d : ℕ) (n : NameTree) (ts : List Piece) (t : TypeTree) → AtLevel
 at_level zero n ts t q = told false NoParts n ts t q
 at_level (suc d) n ts t q = told true (AtLevel d) n ts t q
 
--- ---- behind a `(`
+-- ---- after a `(`
 
 module _ (d : ℕ) (p : Place) where
   abbrev V : Parts
@@ -149,21 +149,21 @@ module _ (d : ℕ) (p : Place) where
       at true r = subst (λ (x : TypeTree). CastEnd V p x (u ∷ us) e) h r
       at false r = absurd r
 
-  -- behind a name alone
-  bare : (n : NameTree) (t : TypeTree) → t ≡ type_of (head_of n) false false → (ts : List Piece) (e : ExprTree) → Take (the symbol.Close) (λ _. CastOnly V p t) ts e → NameBehind V p n ts e
+  -- after a name alone
+  bare : (n : NameTree) (t : TypeTree) → t ≡ type_of (head_of n) false false → (ts : List Piece) (e : ExprTree) → Take (the symbol.Close) (λ _. CastOnly V p t) ts e → NameAfter V p n ts e
   bare n t h [] e q = absurd q
   bare n t h (u ∷ us) e q = at (the symbol.Close u) refl q
     where
-      at : (x : Option Place) → the symbol.Close u ≡ x → After x (λ _. CastOnly V p t) us e → NameBehind V p n (u ∷ us) e
+      at : (x : Option Place) → the symbol.Close u ≡ x → After x (λ _. CastOnly V p t) us e → NameAfter V p n (u ∷ us) e
       at None k r = absurd r
       at (Some z) k r =
           subst (λ (x : Option Place). Chosen (found x) (Take (the symbol.Close) (λ _. BareEnd V p n)) (Bind (V (TheNamed n)) (λ c. Take (the symbol.Close) (λ _. Closed V p c))) (u ∷ us) e) (sym k)
           (subst (λ (x : Option Place). After x (λ _. BareEnd V p n) us e) (sym k) (cast_bare n t h us e r))
 
-  -- behind a name with the end of a type
-  ended : (n : NameTree) (front back : List Piece) (t : TypeTree) (e : ExprTree) → IsNamed (V (TheNamed n)) front t → Take (the symbol.Close) (λ _. CastOnly V p t) back e → NameBehind V p n (front ++ back) e
+  -- after a name with the end of a type
+  ended : (n : NameTree) (front back : List Piece) (t : TypeTree) (e : ExprTree) → IsNamed (V (TheNamed n)) front t → Take (the symbol.Close) (λ _. CastOnly V p t) back e → NameAfter V p n (front ++ back) e
   ended n front back t e i r =
-      subst (λ (y : List Piece). NameBehind V p n (y ++ back) e) (sym i.parts)
+      subst (λ (y : List Piece). NameAfter V p n (y ++ back) e) (sym i.parts)
       (subst (λ (b : Bool). Chosen b (Take (the symbol.Close) (λ _. BareEnd V p n)) (Bind (V (TheNamed n)) (λ c. Take (the symbol.Close) (λ _. Closed V p c))) (i.token ∷ (i.rest ++ back)) e) (sym (not_close i.token i.head i.headed)) (record {
         first = AType t;
         front = i.token ∷ i.rest;
@@ -173,21 +173,21 @@ module _ (d : ℕ) (p : Place) where
         goes_on = r;
       }))
 
-  behind_name : (n : NameTree) (front back : List Piece) (t : TypeTree) (e : ExprTree) → V (TheTypeEnd (head_of n)) front t → Take (the symbol.Close) (λ _. CastOnly V p t) back e → NameBehind V p n (front ++ back) e
+  behind_name : (n : NameTree) (front back : List Piece) (t : TypeTree) (e : ExprTree) → V (TheTypeEnd (head_of n)) front t → Take (the symbol.Close) (λ _. CastOnly V p t) back e → NameAfter V p n (front ++ back) e
   behind_name n front back t e q r = at (at_level d n front t q)
     where
-      at : Told n (V (TheNamed n)) front t → NameBehind V p n (front ++ back) e
-      at (inl h) = subst (λ (y : List Piece). NameBehind V p n (y ++ back) e) (sym h.0) (bare n t h.1 back e r)
+      at : Told n (V (TheNamed n)) front t → NameAfter V p n (front ++ back) e
+      at (inl h) = subst (λ (y : List Piece). NameAfter V p n (y ++ back) e) (sym h.0) (bare n t h.1 back e r)
       at (inr i) = ended n front back t e i r
 
-  -- behind the first token of the type
-  behind_word : (h : TypeHead) (front back : List Piece) (t : TypeTree) (e : ExprTree) → V (TheTypeEnd h) front t → Take (the symbol.Close) (λ _. CastOnly V p t) back e → Bind (V (TheTypeEnd h)) (λ y. Take (the symbol.Close) (λ _. CastOnly V p y)) (front ++ back) e
-  behind_word h front back t e q r = record { first = t; front = front; back = back; parts = refl; reads = q; goes_on = r }
+  -- after the first token of the type
+  after_word : (h : TypeHead) (front back : List Piece) (t : TypeTree) (e : ExprTree) → V (TheTypeEnd h) front t → Take (the symbol.Close) (λ _. CastOnly V p t) back e → Bind (V (TheTypeEnd h)) (λ y. Take (the symbol.Close) (λ _. CastOnly V p y)) (front ++ back) e
+  after_word h front back t e q r = record { first = t; front = front; back = back; parts = refl; reads = q; goes_on = r }
 
   word_first : (z : Place) (w : Word) (us back : List Piece) (t : TypeTree) (e : ExprTree) → After (type_head (AToken (record { kind = AWord w; place = z }))) (λ h. V (TheTypeEnd h)) us t → Take (the symbol.Close) (λ _. CastOnly V p t) back e → Paren V p (AToken (record { kind = AWord w; place = z }) ∷ (us ++ back)) e
-  word_first z word.Int us back t e q r = behind_word (record { place = z; name = IntType }) us back t e q r
-  word_first z word.Bool us back t e q r = behind_word (record { place = z; name = BoolType }) us back t e q r
-  word_first z word.Object us back t e q r = behind_word (record { place = z; name = ObjectType }) us back t e q r
+  word_first z word.Int us back t e q r = after_word (record { place = z; name = IntType }) us back t e q r
+  word_first z word.Bool us back t e q r = after_word (record { place = z; name = BoolType }) us back t e q r
+  word_first z word.Object us back t e q r = after_word (record { place = z; name = ObjectType }) us back t e q r
   word_first z _ us back t e q r = absurd q
 
   first : (u : Piece) (us back : List Piece) (t : TypeTree) (e : ExprTree) → After (type_head u) (λ h. V (TheTypeEnd h)) us t → Take (the symbol.Close) (λ _. CastOnly V p t) back e → Paren V p (u ∷ (us ++ back)) e

@@ -10,8 +10,8 @@ use Rattle.ss_grammar.proofs.Facts.{known}
 use Rattle.ss_grammar.proofs.Parts.{Pick, pick, to_as}
 use Rattle.ss_grammar_expressions.specs.First.{Here, here}
 use Rattle.ss_grammar_expressions.specs.Heads.{Piece, place_at, the, LinkHead, Operation, IsHead, AsHead, link_head}
-use Rattle.ss_grammar_expressions.specs.Grammar.{Part, TheImplication, Value, Parts, Deeper, PlainType, joined, Unary, LinkBehind, Chain, ImplicationFrom, Implication, ExpressionFrom, WholeExpression}
-use Rattle.ss_grammar_expressions.specs.Parser.{Gets, Inner, opened, plain_type, unary, link_behind, chain, joins, right_side, implication_end, implication_from, implication, iff_end, expression_from, whole_expression}
+use Rattle.ss_grammar_expressions.specs.Grammar.{Part, TheImplication, Value, Parts, Deeper, PlainType, joined, Unary, LinkAfter, Chain, ImplicationFrom, Implication, ExpressionFrom, WholeExpression}
+use Rattle.ss_grammar_expressions.specs.Parser.{Gets, Inner, opened, plain_type, unary, link_after, chain, joins, right_side, implication_end, implication_from, implication, iff_end, expression_from, whole_expression}
 use Rattle.ss_grammar_expressions.proofs.Opening.{to_maybe_open, to_maybe_plain}
 use Rattle.ss_grammar_expressions.proofs.Sets.{code, In, subset, subset_in, disjoint, PartOf, larger, listed, done, seq, many}
 use Rattle.ss_grammar_expressions.proofs.Levels.{may_open, the_in, by_levels}
@@ -53,11 +53,11 @@ module _ (n : ℕ) (U : (i : Part) → ℕ → List Piece → Value i → Type 0
   chain_nil (suc k) p a d = record { first = a; front = []; back = []; parts = refl; reads = chain_nil k p a d; goes_on = (0, (refl, refl)) }
 
   module _ (r : PartOf (suc n) X unary_first unary_goes false x) (sample : (z : List Piece) × (v : ExprTree) × X 0 (number_piece ∷ z) v) where
-    link_to : (k : ℕ) (g : List ℕ) → subset (17 ∷ []) g ≡ true → subset g g ≡ true → PartOf (suc n) (Operands k) unary_first g false (operands k) → (h : LinkHead) → PartOf (suc n) (λ d. LinkBehind (may_open d) (V d) (Operands k d) h) link_first g false (λ d. link_behind d (w d) (operands k d) h)
-    unfolding link_behind
-    link_to k g s s' o (Operation op) = larger (suc n) (λ d. LinkBehind (may_open d) (V d) (Operands k d) (Operation op)) unary_first g link_first g false (λ d. link_behind d (w d) (operands k d) (Operation op)) refl s' (to_as (suc n) (Operands k) (In unary_first) (In g) (operands k) (λ b p a. BinaryOf p op a b) o)
-    link_to k g s s' o IsHead = larger (suc n) (λ d. LinkBehind (may_open d) (V d) (Operands k d) IsHead) (32 ∷ 50 ∷ 51 ∷ 52 ∷ []) (17 ∷ []) link_first g false (λ d. link_behind d (w d) (operands k d) IsHead) refl s (to_as (suc n) (λ d. PlainType (may_open d)) (In (32 ∷ 50 ∷ 51 ∷ 52 ∷ [])) (In (17 ∷ [])) plain_type (λ t p a. IsOf p a t) (plain_type_to n))
-    link_to k g s s' o AsHead = larger (suc n) (λ d. LinkBehind (may_open d) (V d) (Operands k d) AsHead) (32 ∷ 50 ∷ 51 ∷ 52 ∷ []) (17 ∷ []) link_first g false (λ d. link_behind d (w d) (operands k d) AsHead) refl s (to_as (suc n) (λ d. PlainType (may_open d)) (In (32 ∷ 50 ∷ 51 ∷ 52 ∷ [])) (In (17 ∷ [])) plain_type (λ t p a. AsOf p a t) (plain_type_to n))
+    link_to : (k : ℕ) (g : List ℕ) → subset (17 ∷ []) g ≡ true → subset g g ≡ true → PartOf (suc n) (Operands k) unary_first g false (operands k) → (h : LinkHead) → PartOf (suc n) (λ d. LinkAfter (may_open d) (V d) (Operands k d) h) link_first g false (λ d. link_after d (w d) (operands k d) h)
+    unfolding link_after
+    link_to k g s s' o (Operation op) = larger (suc n) (λ d. LinkAfter (may_open d) (V d) (Operands k d) (Operation op)) unary_first g link_first g false (λ d. link_after d (w d) (operands k d) (Operation op)) refl s' (to_as (suc n) (Operands k) (In unary_first) (In g) (operands k) (λ b p a. BinaryOf p op a b) o)
+    link_to k g s s' o IsHead = larger (suc n) (λ d. LinkAfter (may_open d) (V d) (Operands k d) IsHead) (32 ∷ 50 ∷ 51 ∷ 52 ∷ []) (17 ∷ []) link_first g false (λ d. link_after d (w d) (operands k d) IsHead) refl s (to_as (suc n) (λ d. PlainType (may_open d)) (In (32 ∷ 50 ∷ 51 ∷ 52 ∷ [])) (In (17 ∷ [])) plain_type (λ t p a. IsOf p a t) (plain_type_to n))
+    link_to k g s s' o AsHead = larger (suc n) (λ d. LinkAfter (may_open d) (V d) (Operands k d) AsHead) (32 ∷ 50 ∷ 51 ∷ 52 ∷ []) (17 ∷ []) link_first g false (λ d. link_after d (w d) (operands k d) AsHead) refl s (to_as (suc n) (λ d. PlainType (may_open d)) (In (32 ∷ 50 ∷ 51 ∷ 52 ∷ [])) (In (17 ∷ [])) plain_type (λ t p a. AsOf p a t) (plain_type_to n))
 
     -- one rank more: f has the operators of lower ranks, hs those of this one
     step : (k : ℕ) (hs f : List ℕ) → Ranks (suc k) hs → disjoint unary_goes f ≡ true → subset (17 ∷ []) (f ++ unary_goes) ≡ true → subset (f ++ unary_goes) (f ++ unary_goes) ≡ true → subset ((f ++ unary_goes) ++ unary_goes) (f ++ unary_goes) ≡ true → disjoint (f ++ unary_goes) hs ≡ true → subset (f ++ hs) (hs ++ f) ≡ true → subset ((hs ++ (f ++ unary_goes)) ++ (f ++ unary_goes)) ((hs ++ f) ++ unary_goes) ≡ true → ((p : Place) (a : ExprTree) → PartOf (suc n) (Chains k p a) f (f ++ unary_goes) true (chains k p a)) → (p : Place) (a : ExprTree) → PartOf (suc n) (Chains (suc k) p a) (hs ++ f) ((hs ++ f) ++ unary_goes) true (chains (suc k) p a)
@@ -65,8 +65,8 @@ module _ (n : ℕ) (U : (i : Part) → ℕ → List Piece → Value i → Type 0
     step k hs f ranked s1 s2 s7 s3 s4 s5 s6 lower p a =
         let o : PartOf (suc n) (Operands k) unary_first (f ++ unary_goes) false (operands k) = larger (suc n) (Operands k) unary_first ((f ++ unary_goes) ++ unary_goes) unary_first (f ++ unary_goes) false (operands k) refl s3 (from_unary (suc n) X x r sample true (λ p a d. Chains k p a d) (λ p a d. chains k p a d) f (f ++ unary_goes) s1 lower (λ p a. chain_nil k p a 0)) in
         larger (suc n) (Chains (suc k) p a) (f ++ hs) ((hs ++ (f ++ unary_goes)) ++ (f ++ unary_goes)) (hs ++ f) ((hs ++ f) ++ unary_goes) true (chains (suc k) p a) s5 s6
-        (seq (suc n) true true (Chains k p a) (λ b d. Many (link_head (suc k)) (LinkBehind (may_open d) (V d) (Operands k d)) (joined p) b) f (f ++ unary_goes) hs (hs ++ (f ++ unary_goes)) (chains k p a) (λ b d ts. times (link_head (suc k)) (link_behind d (w d) (operands k d)) (joins d (w d) p) (length ts) b ts) (lower p a)
-        (λ b. many (suc n) (link_head (suc k)) hs ranked (λ h d. LinkBehind (may_open d) (V d) (Operands k d) h) (joined p) link_first (f ++ unary_goes) (λ h d. link_behind d (w d) (operands k d) h) (link_to k (f ++ unary_goes) s2 s7 o) s4 b) s4)
+        (seq (suc n) true true (Chains k p a) (λ b d. Many (link_head (suc k)) (LinkAfter (may_open d) (V d) (Operands k d)) (joined p) b) f (f ++ unary_goes) hs (hs ++ (f ++ unary_goes)) (chains k p a) (λ b d ts. times (link_head (suc k)) (link_after d (w d) (operands k d)) (joins d (w d) p) (length ts) b ts) (lower p a)
+        (λ b. many (suc n) (link_head (suc k)) hs ranked (λ h d. LinkAfter (may_open d) (V d) (Operands k d) h) (joined p) link_first (f ++ unary_goes) (λ h d. link_after d (w d) (operands k d) h) (link_to k (f ++ unary_goes) s2 s7 o) s4 b) s4)
 
     chain0 : (p : Place) (a : ExprTree) → PartOf (suc n) (Chains 0 p a) [] ([] ++ unary_goes) true (chains 0 p a)
     unfolding chain

@@ -15,8 +15,8 @@ use Rattle.ss_grammar.proofs.Parts.{Pick, pick, to_as, to_same}
 use Rattle.ss_grammar.proofs.Good.{many_in}
 use Rattle.ss_grammar_expressions.specs.First.{tokened}
 use Rattle.ss_grammar_expressions.specs.Heads.{Piece, is, the, the_word, a_name, TypeHead, type_head, PostfixHead, DotHead, IndexHead, CallHead, postfix_head, postfix_opens, NewKind, ArrayKind, ObjectKind, new_head}
-use Rattle.ss_grammar_expressions.specs.Grammar.{Part, TheExpression, TheRange, Value, Parts, NoParts, Held, Brackets, BangEnd, type_of, TypeEnd, PlainType, AnyName, join_argument, Args, ArgsEnd, IndexEnd, ParenEnd, joined, no_place, PostfixBehind, Postfixes, NewEnd, New, Old, RangeEnd, Range, Body, Bound, Quantified}
-use Rattle.ss_grammar_expressions.specs.Parser.{Gets, Inner, give, nothing, opened, closing_bracket, brackets, bang_end, type_end, plain_type, name_at, args, some_args, args_end, index_end, paren_end, postfix_behind, postfix, postfixes, new_behind, new_end, new, old_behind, old, range_high, range_end, range, body, bound, bound_name, bounds_and_body, quantified_behind, quantified}
+use Rattle.ss_grammar_expressions.specs.Grammar.{Part, TheExpression, TheRange, Value, Parts, NoParts, Held, Brackets, BangEnd, type_of, TypeEnd, PlainType, AnyName, join_argument, Args, ArgsEnd, IndexEnd, ParenEnd, joined, no_place, PostfixAfter, Postfixes, NewEnd, New, Old, RangeEnd, Range, Body, Bound, Quantified}
+use Rattle.ss_grammar_expressions.specs.Parser.{Gets, Inner, give, nothing, opened, closing_bracket, brackets, bang_end, type_end, plain_type, name_at, args, some_args, args_end, index_end, paren_end, postfix_after, postfix, postfixes, new_after, new_end, new, old_after, old, range_high, range_end, range, body, bound, bound_name, bounds_and_body, quantified_after, quantified}
 use Rattle.ss_grammar_expressions.proofs.First.{to_choose}
 use Rattle.ss_grammar_expressions.proofs.Opening.{to_maybe_open, to_many_open, to_maybe_plain}
 use Rattle.ss_grammar_expressions.proofs.Sets.{code, In, subset_in, PartOf, larger, listed, done, token, seq, many}
@@ -130,25 +130,25 @@ module _ (n : ℕ) (U : (i : Part) → ℕ → List Piece → Value i → Type 0
   postfix_part CallHead d = Bind (ArgsEnd (U TheExpression d)) (λ x. Done (λ p a. CallOf p a (arguments x)))
 
   abbrev postfix_reader : PostfixHead → ℕ → Gets Behind
-  postfix_reader h d = postfix_behind (suc d) (λ i. u i d) h
+  postfix_reader h d = postfix_after (suc d) (λ i. u i d) h
 
   abbrev postfix_first : List ℕ
   postfix_first = 32 ∷ 16 ∷ unary_first
 
   postfix_open : (h : PostfixHead) → postfix_opens h ≡ true → PartOf n (postfix_part h) postfix_first [] false (postfix_reader h)
-  unfolding postfix_behind
+  unfolding postfix_after
   postfix_open DotHead e = absurd cc
   postfix_open IndexHead e = larger n (postfix_part IndexHead) unary_first [] postfix_first [] false (postfix_reader IndexHead) refl refl (made (λ d. IndexEnd (U TheExpression d)) unary_first (λ d. index_end (u TheExpression d)) (λ x p a. ElementOf p a x) (index_end_to n (U TheExpression) (u TheExpression) inner))
   postfix_open CallHead e = larger n (postfix_part CallHead) (16 ∷ unary_first) [] postfix_first [] false (postfix_reader CallHead) refl refl (made (λ d. ArgsEnd (U TheExpression d)) (16 ∷ unary_first) (λ d. args_end (u TheExpression d)) (λ x p a. CallOf p a (arguments x)) (args_end_to n (U TheExpression) (u TheExpression) inner))
 
   postfix_leaf : (h : PostfixHead) → postfix_opens h ≡ false → PartOf (suc n) (postfix_part h) postfix_first [] false (postfix_reader h)
-  unfolding postfix_behind
+  unfolding postfix_after
   postfix_leaf DotHead e = larger (suc n) (postfix_part DotHead) (32 ∷ []) [] postfix_first [] false (postfix_reader DotHead) refl refl (to_as (suc n) (λ d. AnyName) (In (32 ∷ [])) (In []) (λ d. name_at) (λ x p a. MemberOf p a x) (name_to (suc n)))
   postfix_leaf IndexHead e = absurd cc
   postfix_leaf CallHead e = absurd cc
 
   postfix_agree : (d : ℕ) (h : PostfixHead) (t : Piece) (ts : List Piece) → pick (postfix_opens h) d (postfix_reader h) t ts ≡ postfix d (w d) (h, t) ts
-  unfolding postfix_behind
+  unfolding postfix_after
   postfix_agree zero DotHead t ts = refl
   postfix_agree (suc d) DotHead t ts = refl
   postfix_agree zero IndexHead t ts = refl
@@ -156,7 +156,7 @@ module _ (n : ℕ) (U : (i : Part) → ℕ → List Piece → Value i → Type 0
   postfix_agree zero CallHead t ts = refl
   postfix_agree (suc d) CallHead t ts = refl
 
-  postfix_there : (d : ℕ) (h : PostfixHead) (ts : List Piece) (v : Behind) → Pick (postfix_opens h) (postfix_part h) d ts v → PostfixBehind (may_open d) (V d) h ts v
+  postfix_there : (d : ℕ) (h : PostfixHead) (ts : List Piece) (v : Behind) → Pick (postfix_opens h) (postfix_part h) d ts v → PostfixAfter (may_open d) (V d) h ts v
   postfix_there zero DotHead ts v q = q
   postfix_there (suc d) DotHead ts v q = q
   postfix_there zero IndexHead ts v q = q
@@ -164,7 +164,7 @@ module _ (n : ℕ) (U : (i : Part) → ℕ → List Piece → Value i → Type 0
   postfix_there zero CallHead ts v q = q
   postfix_there (suc d) CallHead ts v q = q
 
-  postfix_back : (d : ℕ) (h : PostfixHead) (ts : List Piece) (v : Behind) → PostfixBehind (may_open d) (V d) h ts v → Pick (postfix_opens h) (postfix_part h) d ts v
+  postfix_back : (d : ℕ) (h : PostfixHead) (ts : List Piece) (v : Behind) → PostfixAfter (may_open d) (V d) h ts v → Pick (postfix_opens h) (postfix_part h) d ts v
   postfix_back zero DotHead ts v q = q
   postfix_back (suc d) DotHead ts v q = q
   postfix_back zero IndexHead ts v q = q
@@ -175,25 +175,25 @@ module _ (n : ℕ) (U : (i : Part) → ℕ → List Piece → Value i → Type 0
   pub postfixes_to : (p : Place) (a : ExprTree) → PartOf (suc n) (λ d. Postfixes (may_open d) (V d) p a) postfix_set postfix_set true (λ d. postfixes d (w d) p a)
   unfolding postfixes
   postfixes_to p a = to_same (suc n) (λ d. Many postfix_head (λ h. Pick (postfix_opens h) (postfix_part h) d) (joined p) a) (λ d. Postfixes (may_open d) (V d) p a) (In postfix_set) (In postfix_set) true (λ d. postfixes d (w d) p a)
-      (λ d ts v q. many_in postfix_head (joined p) (λ h. Pick (postfix_opens h) (postfix_part h) d) (PostfixBehind (may_open d) (V d)) (postfix_there d) a ts v q)
-      (λ d ts v q. many_in postfix_head (joined p) (PostfixBehind (may_open d) (V d)) (λ h. Pick (postfix_opens h) (postfix_part h) d) (postfix_back d) a ts v q)
+      (λ d ts v q. many_in postfix_head (joined p) (λ h. Pick (postfix_opens h) (postfix_part h) d) (PostfixAfter (may_open d) (V d)) (postfix_there d) a ts v q)
+      (λ d ts v q. many_in postfix_head (joined p) (PostfixAfter (may_open d) (V d)) (λ h. Pick (postfix_opens h) (postfix_part h) d) (postfix_back d) a ts v q)
       (listed (suc n) (λ d. Many postfix_head (λ h. Pick (postfix_opens h) (postfix_part h) d) (joined p) a) (λ t. known (postfix_head t)) (λ t. known (postfix_head t) || In [] t) postfix_set postfix_set true (λ d. postfixes d (w d) p a) postfix_in (λ t h. postfix_in t (or_nothing (known (postfix_head t)) h))
       (to_many_open n postfix_head postfix_opens postfix_part postfix_reader (In postfix_first) (In []) postfix_open postfix_leaf (joined p) (λ t h i. absurd cc) (λ d. postfix d (w d)) postfix_agree a))
 
   -- `old`
   pub old_to : (p : Place) → PartOf (suc n) (λ d. Old (may_open d) (V d) p) (36 ∷ 15 ∷ []) [] false (λ d. old d (w d) p)
-  unfolding old old_behind
+  unfolding old old_after
   old_to p = held_to n (the symbol.Open) (15 ∷ []) (the_in symbol.Open) (λ _ d. Bind (ParenEnd (U TheExpression d)) (λ e. Done (OldOf p e))) (λ _ d ts. paren_end (u TheExpression d) ts >>= λ e. Ok (OldOf p e.0, e.1)) (BaseOf p) unary_first false
       (λ _. made (λ d. ParenEnd (U TheExpression d)) unary_first (λ d. paren_end (u TheExpression d)) (λ e. OldOf p e) (paren_end_to n (U TheExpression) (u TheExpression) inner))
-      (λ d _. Bind (ParenEnd (V d TheExpression)) (λ e. Done (OldOf p e))) (λ d _. old_behind d (w d) p) (λ d b ts v q. q) (λ d b ts v q. q) (λ d b ts. refl)
+      (λ d _. Bind (ParenEnd (V d TheExpression)) (λ e. Done (OldOf p e))) (λ d _. old_after d (w d) p) (λ d b ts v q. q) (λ d b ts v q. q) (λ d b ts. refl)
 
   -- `new`
   abbrev new_part : Place → TypeHead → NewKind → ℕ → List Piece → ExprTree → Type 0
   new_part p t k d = NewEnd true (λ i. U i d) p t k
 
-  new_part_to : (p : Place) (t : TypeHead) (k : NewKind) → PartOf n (new_part p t k) (16 ∷ unary_first) [] false (λ d. new_behind (suc d) (λ i. u i d) p t k)
-  unfolding new_behind
-  new_part_to p t ArrayKind = larger n (new_part p t ArrayKind) unary_first [] (16 ∷ unary_first) [] false (λ d. new_behind (suc d) (λ i. u i d) p t ArrayKind) refl refl (made (λ d. IndexEnd (U TheExpression d)) unary_first (λ d. index_end (u TheExpression d)) (λ e. NewArrayOf p t.place t.name e) (index_end_to n (U TheExpression) (u TheExpression) inner))
+  new_part_to : (p : Place) (t : TypeHead) (k : NewKind) → PartOf n (new_part p t k) (16 ∷ unary_first) [] false (λ d. new_after (suc d) (λ i. u i d) p t k)
+  unfolding new_after
+  new_part_to p t ArrayKind = larger n (new_part p t ArrayKind) unary_first [] (16 ∷ unary_first) [] false (λ d. new_after (suc d) (λ i. u i d) p t ArrayKind) refl refl (made (λ d. IndexEnd (U TheExpression d)) unary_first (λ d. index_end (u TheExpression d)) (λ e. NewArrayOf p t.place t.name e) (index_end_to n (U TheExpression) (u TheExpression) inner))
   new_part_to p t (ObjectKind x) = made (λ d. ArgsEnd (U TheExpression d)) (16 ∷ unary_first) (λ d. args_end (u TheExpression d)) (λ es. NewOf p (record { text = x; place = t.place }) (arguments es)) (args_end_to n (U TheExpression) (u TheExpression) inner)
 
   new_there : (p : Place) (t : TypeHead) (d : ℕ) (k : NewKind) (ts : List Piece) (v : ExprTree) → new_part p t k d ts v → NewEnd (may_open (suc d)) (V (suc d)) p t k ts v
@@ -201,8 +201,8 @@ module _ (n : ℕ) (U : (i : Part) → ℕ → List Piece → Value i → Type 0
 
   new_end_to : (p : Place) (t : TypeHead) → PartOf (suc n) (λ d. Held (may_open d) (new_head t.name) (NewEnd (may_open d) (V d) p t) (BaseOf p)) (36 ∷ 17 ∷ 15 ∷ []) [] false (λ d. new_end d (w d) p t)
   unfolding new_end
-  new_end_to p t = held_to n (new_head t.name) (17 ∷ 15 ∷ []) (new_in t.name) (new_part p t) (λ k d. new_behind (suc d) (λ i. u i d) p t k) (BaseOf p) (16 ∷ unary_first) false (new_part_to p t)
-      (λ d. NewEnd (may_open d) (V d) p t) (λ d k. new_behind d (w d) p t k) (λ d b ts v q. q) (λ d b ts v q. q) (λ d b ts. refl)
+  new_end_to p t = held_to n (new_head t.name) (17 ∷ 15 ∷ []) (new_in t.name) (new_part p t) (λ k d. new_after (suc d) (λ i. u i d) p t k) (BaseOf p) (16 ∷ unary_first) false (new_part_to p t)
+      (λ d. NewEnd (may_open d) (V d) p t) (λ d k. new_after d (w d) p t k) (λ d b ts v q. q) (λ d b ts v q. q) (λ d b ts. refl)
 
   pub new_to : (p : Place) → PartOf (suc n) (λ d. New (may_open d) (V d) p) (32 ∷ 50 ∷ 51 ∷ 52 ∷ []) [] false (λ d. new d (w d) p)
   unfolding new
@@ -237,11 +237,11 @@ module _ (n : ℕ) (U : (i : Part) → ℕ → List Piece → Value i → Type 0
   bounds_and_body_to p q x = seq n false false (U TheRange) (λ r d. Bind (Body true (λ i. U i d)) (λ e. Done (QuantifiedOf p q x r.0 r.1 e))) (36 ∷ 15 ∷ []) [] (19 ∷ []) [] (u TheRange) (λ r d ts. body (suc d) (λ i. u i d) ts >>= λ e. Ok (QuantifiedOf p q x r.0 r.1 e.0, e.1)) range_part
       (λ r. made (λ d. Body true (λ i. U i d)) (19 ∷ []) (λ d. body (suc d) (λ i. u i d)) (λ e. QuantifiedOf p q x r.0 r.1 e) body_to) refl
 
-  quantified_end_to : (p : Place) (q : Quantifier) → PartOf n (λ d. Bind (Bound true (λ i. U i d)) (λ x. Bind (U TheRange d) (λ r. Bind (Body true (λ i. U i d)) (λ e. Done (QuantifiedOf p q x r.0 r.1 e))))) (50 ∷ []) [] false (λ d. quantified_behind (suc d) (λ i. u i d) p q)
-  unfolding quantified_behind
+  quantified_end_to : (p : Place) (q : Quantifier) → PartOf n (λ d. Bind (Bound true (λ i. U i d)) (λ x. Bind (U TheRange d) (λ r. Bind (Body true (λ i. U i d)) (λ e. Done (QuantifiedOf p q x r.0 r.1 e))))) (50 ∷ []) [] false (λ d. quantified_after (suc d) (λ i. u i d) p q)
+  unfolding quantified_after
   quantified_end_to p q = seq n false false (λ d. Bound true (λ i. U i d)) (λ x d. Bind (U TheRange d) (λ r. Bind (Body true (λ i. U i d)) (λ e. Done (QuantifiedOf p q x r.0 r.1 e)))) (50 ∷ []) [] (36 ∷ 15 ∷ []) [] (λ d. bound (suc d) (λ i. u i d)) (λ x d. bounds_and_body (suc d) (λ i. u i d) p q x) bound_to (bounds_and_body_to p q) refl
 
   pub quantified_to : (p : Place) (q : Quantifier) → PartOf (suc n) (λ d. Quantified (may_open d) (V d) p q) (36 ∷ 13 ∷ []) [] false (λ d. quantified d (w d) p q)
   unfolding quantified
-  quantified_to p q = held_to n (the symbol.OpenBrace) (13 ∷ []) (the_in symbol.OpenBrace) (λ _ d. Bind (Bound true (λ i. U i d)) (λ x. Bind (U TheRange d) (λ r. Bind (Body true (λ i. U i d)) (λ e. Done (QuantifiedOf p q x r.0 r.1 e))))) (λ _ d. quantified_behind (suc d) (λ i. u i d) p q) (BaseOf p) (50 ∷ []) false (λ _. quantified_end_to p q)
-      (λ d _. Bind (Bound (may_open d) (V d)) (λ x. Bind (V d TheRange) (λ r. Bind (Body (may_open d) (V d)) (λ e. Done (QuantifiedOf p q x r.0 r.1 e))))) (λ d _. quantified_behind d (w d) p q) (λ d b ts v q. q) (λ d b ts v q. q) (λ d b ts. refl)
+  quantified_to p q = held_to n (the symbol.OpenBrace) (13 ∷ []) (the_in symbol.OpenBrace) (λ _ d. Bind (Bound true (λ i. U i d)) (λ x. Bind (U TheRange d) (λ r. Bind (Body true (λ i. U i d)) (λ e. Done (QuantifiedOf p q x r.0 r.1 e))))) (λ _ d. quantified_after (suc d) (λ i. u i d) p q) (BaseOf p) (50 ∷ []) false (λ _. quantified_end_to p q)
+      (λ d _. Bind (Bound (may_open d) (V d)) (λ x. Bind (V d TheRange) (λ r. Bind (Body (may_open d) (V d)) (λ e. Done (QuantifiedOf p q x r.0 r.1 e))))) (λ d _. quantified_after d (w d) p q) (λ d b ts v q. q) (λ d b ts v q. q) (λ d b ts. refl)

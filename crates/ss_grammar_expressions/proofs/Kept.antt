@@ -10,7 +10,7 @@ use Rattle.ss_ast.specs.Tokens.{Kind, AWord, ASymbol, AName, ANumber, AText, AnE
 use Rattle.ss_ast.specs.Expressions.{NameTree, TypeNameTree, TypeTree, ExprTree, Behind, BaseOf, OldOf, QuantifiedOf}
 use Rattle.ss_grammar.specs.Language.{Done, After, Take, Maybe, Bind, Times, Many}
 use Rattle.ss_grammar_expressions.specs.First.{ByFirst, Nothing, Chosen, Choose, Only, Here}
-use Rattle.ss_grammar_expressions.specs.Heads.{Piece, AToken, LeftOut, place_at, or_left_out, is, the, the_word, a_name, the_least, TypeHead, type_word, type_head, LinkHead, Operation, IsHead, AsHead, link_head, PostfixHead, DotHead, IndexHead, CallHead, postfix_head, Head, NegateHead, NotHead, OpenHead, Leaf, OldHead, NewHead, QuantifierHead, unary_head, castable, NamedHead, BangBehind, BracketBehind, named_head, NewKind, ArrayKind, ObjectKind, new_head}
+use Rattle.ss_grammar_expressions.specs.Heads.{Piece, AToken, LeftOut, place_at, or_left_out, is, the, the_word, a_name, the_least, TypeHead, type_word, type_head, LinkHead, Operation, IsHead, AsHead, link_head, PostfixHead, DotHead, IndexHead, CallHead, postfix_head, Head, NegateHead, NotHead, OpenHead, Leaf, OldHead, NewHead, QuantifierHead, unary_head, castable, NamedHead, BangAfter, BracketAfter, named_head, NewKind, ArrayKind, ObjectKind, new_head}
 use Rattle.ss_grammar_expressions.specs.Ends.{is_end, TakesNoEnd}
 use Rattle.ss_grammar_expressions.specs.Grammar as grammar
 use Rattle.ss_grammar_expressions.specs.Grammar.{Part, TheUnary, TheImplication, TheExpression, TheTypeEnd, TheNamed, TheRange, Value, Parts, NoParts, no_place, Enclosed, AType, AnExpr}
@@ -76,9 +76,9 @@ pub kept_deeper : {A : Type 0} (o : Bool) (L : List Piece → A → Type 0) → 
 kept_deeper true L l = l
 kept_deeper false L l = kept_nothing
 
-kept_held_behind : {A B : Type 0} (o : Bool) (K : B → List Piece → A → Type 0) (a : A) → ((b : B) → Kept (K b)) → (x : Option B) → Kept (grammar.HeldBehind o K a x)
-kept_held_behind o K a k None = kept_done a
-kept_held_behind o K a k (Some b) = kept_deeper o (K b) (k b)
+kept_held_after : {A B : Type 0} (o : Bool) (K : B → List Piece → A → Type 0) (a : A) → ((b : B) → Kept (K b)) → (x : Option B) → Kept (grammar.HeldAfter o K a x)
+kept_held_after o K a k None = kept_done a
+kept_held_after o K a k (Some b) = kept_deeper o (K b) (k b)
 
 -- ---- tokens
 
@@ -102,7 +102,7 @@ pub knows_word : (w : Word) → Knows (the_word w)
 knows_word w = knows (the_word w) (λ p. refl)
 
 pub kept_held : {A B : Type 0} (o : Bool) (f : Piece → Option B) (K : B → List Piece → A → Type 0) (a : A) → Knows (or_left_out f) → ((b : B) → Kept (K b)) → Kept (grammar.Held o f K a)
-kept_held o f K a g k = kept_take _ _ g (kept_held_behind o K a k)
+kept_held o f K a g k = kept_take _ _ g (kept_held_after o K a k)
 
 -- ---- the productions
 
@@ -138,13 +138,13 @@ module _ (E : List Piece → ExprTree → Type 0) (e : Kept E) where
   paren_end = kept_bind _ _ e (λ a. closing symbol.Close a)
 
 module _ (V : Parts) (kv : (i : Part) → Kept (V i)) (o : Bool) where
-  postfix_behind : (h : PostfixHead) → Kept (grammar.PostfixBehind o V h)
-  postfix_behind DotHead = kept_bind _ _ any_name (λ n. kept_done _)
-  postfix_behind IndexHead = kept_deeper o _ (kept_bind _ _ (index_end (V TheExpression) (kv TheExpression)) (λ e. kept_done _))
-  postfix_behind CallHead = kept_deeper o _ (kept_bind _ _ (args_end (V TheExpression) (kv TheExpression)) (λ es. kept_done _))
+  postfix_after : (h : PostfixHead) → Kept (grammar.PostfixAfter o V h)
+  postfix_after DotHead = kept_bind _ _ any_name (λ n. kept_done _)
+  postfix_after IndexHead = kept_deeper o _ (kept_bind _ _ (index_end (V TheExpression) (kv TheExpression)) (λ e. kept_done _))
+  postfix_after CallHead = kept_deeper o _ (kept_bind _ _ (args_end (V TheExpression) (kv TheExpression)) (λ es. kept_done _))
 
   pub postfixes : (p : Place) (a : ExprTree) → Kept (grammar.Postfixes o V p a)
-  postfixes p a = kept_many _ _ _ (knows postfix_head (λ p. refl)) postfix_behind a
+  postfixes p a = kept_many _ _ _ (knows postfix_head (λ p. refl)) postfix_after a
 
   new_end : (p : Place) (t : TypeHead) (k : NewKind) → Kept (grammar.NewEnd o V p t k)
   new_end p t ArrayKind = kept_bind _ _ (index_end (V TheExpression) (kv TheExpression)) (λ e. kept_done _)
@@ -191,11 +191,11 @@ module _ (V : Parts) (kv : (i : Part) → Kept (V i)) where
   word_paren : (p : Place) → Kept (grammar.WordParen V p)
   word_paren p = kept_take _ _ (knows type_word (λ p. refl)) (λ w. kept_bind _ _ (kv (TheTypeEnd w)) (λ t. kept_take _ _ (knows_symbol symbol.Close) (λ _. cast_only p t)))
 
-  name_behind : (p : Place) (n : NameTree) → Kept (grammar.NameBehind V p n)
-  name_behind p n = kept_choose _ _ _ (kept_take _ _ (knows_symbol symbol.Close) (λ _. bare_end p n)) (kept_bind _ _ (kv (TheNamed n)) (λ c. kept_take _ _ (knows_symbol symbol.Close) (λ _. enclosed p c)))
+  name_after : (p : Place) (n : NameTree) → Kept (grammar.NameAfter V p n)
+  name_after p n = kept_choose _ _ _ (kept_take _ _ (knows_symbol symbol.Close) (λ _. bare_end p n)) (kept_bind _ _ (kv (TheNamed n)) (λ c. kept_take _ _ (knows_symbol symbol.Close) (λ _. enclosed p c)))
 
   name_paren : (p : Place) → Kept (grammar.NameParen V p)
-  name_paren p = kept_take _ _ (knows a_name (λ p. refl)) (name_behind p)
+  name_paren p = kept_take _ _ (knows a_name (λ p. refl)) (name_after p)
 
   other_paren : (p : Place) → Kept (grammar.OtherParen V p)
   other_paren p = kept_bind _ _ (paren_end (V TheExpression) (kv TheExpression)) (λ e. after_paren p e)
@@ -207,26 +207,26 @@ module _ (V : Parts) (kv : (i : Part) → Kept (V i)) where
   negated p = kept_choose _ _ _ (kept_take _ _ (knows the_least (λ p. refl)) (λ _. postfixes V kv true p _)) (kept_bind _ _ (kv TheUnary) (λ e. kept_done _))
 
 module _ (V : Parts) (kv : (i : Part) → Kept (V i)) (o : Bool) where
-  unary_behind : (h : Head) → Kept (grammar.UnaryBehind o V h)
-  unary_behind (NegateHead p) = kept_deeper o _ (negated V kv p)
-  unary_behind (NotHead p) = kept_deeper o _ (kept_bind _ _ (kv TheUnary) (λ e. kept_done _))
-  unary_behind (OpenHead p) = kept_deeper o _ (paren V kv p)
-  unary_behind (Leaf p v) = postfixes V kv o p v
-  unary_behind (OldHead p) = kept_bind _ _ (old V kv o p) (λ a. postfixes V kv o p a)
-  unary_behind (NewHead p) = kept_bind _ _ (new V kv o p) (λ a. postfixes V kv o p a)
-  unary_behind (QuantifierHead p q) = kept_bind _ _ (quantified V kv o p q) (λ a. postfixes V kv o p a)
+  unary_after : (h : Head) → Kept (grammar.UnaryAfter o V h)
+  unary_after (NegateHead p) = kept_deeper o _ (negated V kv p)
+  unary_after (NotHead p) = kept_deeper o _ (kept_bind _ _ (kv TheUnary) (λ e. kept_done _))
+  unary_after (OpenHead p) = kept_deeper o _ (paren V kv p)
+  unary_after (Leaf p v) = postfixes V kv o p v
+  unary_after (OldHead p) = kept_bind _ _ (old V kv o p) (λ a. postfixes V kv o p a)
+  unary_after (NewHead p) = kept_bind _ _ (new V kv o p) (λ a. postfixes V kv o p a)
+  unary_after (QuantifierHead p q) = kept_bind _ _ (quantified V kv o p q) (λ a. postfixes V kv o p a)
 
   unary : Kept (grammar.Unary o V)
-  unary = kept_take _ _ (knows unary_head (λ p. refl)) unary_behind
+  unary = kept_take _ _ (knows unary_head (λ p. refl)) unary_after
 
-  link_behind : (E : List Piece → ExprTree → Type 0) → Kept E → (h : LinkHead) → Kept (grammar.LinkBehind o V E h)
-  link_behind E e (Operation op) = kept_bind _ _ e (λ b. kept_done _)
-  link_behind E e IsHead = kept_bind _ _ (plain_type o) (λ t. kept_done _)
-  link_behind E e AsHead = kept_bind _ _ (plain_type o) (λ t. kept_done _)
+  link_after : (E : List Piece → ExprTree → Type 0) → Kept E → (h : LinkHead) → Kept (grammar.LinkAfter o V E h)
+  link_after E e (Operation op) = kept_bind _ _ e (λ b. kept_done _)
+  link_after E e IsHead = kept_bind _ _ (plain_type o) (λ t. kept_done _)
+  link_after E e AsHead = kept_bind _ _ (plain_type o) (λ t. kept_done _)
 
   chain : (k : ℕ) (p : Place) (a : ExprTree) → Kept (grammar.Chain o V k p a)
   chain zero p a = kept_done a
-  chain (suc k) p a = kept_bind _ _ (chain k p a) (λ b. kept_many _ _ _ (knows (link_head (suc k)) (λ p. refl)) (link_behind _ (kept_here _ (λ q. kept_bind _ _ unary (λ c. chain k q c)))) b)
+  chain (suc k) p a = kept_bind _ _ (chain k p a) (λ b. kept_many _ _ _ (knows (link_head (suc k)) (λ p. refl)) (link_after _ (kept_here _ (λ q. kept_bind _ _ unary (λ c. chain k q c)))) b)
 
   implication_from : (p : Place) (a : ExprTree) → Kept (grammar.ImplicationFrom o V p a)
   implication_from p a = kept_bind _ _ (chain 6 p a) (λ b. kept_maybe _ _ _ (knows_symbol symbol.Implies) (λ _. kept_deeper o _ (kept_bind _ _ (kv TheImplication) (λ c. kept_done _))))
@@ -246,12 +246,12 @@ module _ (V : Parts) (kv : (i : Part) → Kept (V i)) (o : Bool) where
   element_or_array : (n : NameTree) → Kept (grammar.ElementOrArray o V n)
   element_or_array n = kept_choose _ _ _ (kept_take _ _ (knows_symbol symbol.CloseBracket) (λ _. kept_bind _ _ bang_end (λ s. kept_done _))) (kept_bind _ _ (index_end (V TheExpression) (kv TheExpression)) (λ i. kept_bind _ _ (rest_of n.place _) (λ e. kept_done _)))
 
-  named_behind : (n : NameTree) (h : NamedHead) → Kept (grammar.NamedBehind o V n h)
-  named_behind n BangBehind = kept_done _
-  named_behind n BracketBehind = kept_deeper o _ (element_or_array n)
+  named_after : (n : NameTree) (h : NamedHead) → Kept (grammar.NamedAfter o V n h)
+  named_after n BangAfter = kept_done _
+  named_after n BracketAfter = kept_deeper o _ (element_or_array n)
 
   named_part : (n : NameTree) → Kept (grammar.Named o V n)
-  named_part n = kept_choose _ _ _ (kept_take _ _ (knows named_head (λ p. refl)) (named_behind n)) (kept_bind _ _ (rest_of n.place _) (λ e. kept_done _))
+  named_part n = kept_choose _ _ _ (kept_take _ _ (knows named_head (λ p. refl)) (named_after n)) (kept_bind _ _ (rest_of n.place _) (λ e. kept_done _))
 
   production : (i : Part) → Kept (grammar.Production o V i)
   production TheUnary = unary

@@ -14,7 +14,7 @@ use Rattle.ss_grammar.proofs.Knot.{ReadsTo}
 use Rattle.ss_grammar.proofs.Parts.{Pick, pick, to_same, to_wide}
 use Rattle.ss_grammar_expressions.specs.First.{tokened}
 use Rattle.ss_grammar_expressions.specs.Heads.{Piece, AToken, LeftOut, or_left_out, if_so, symbol_number, symbol_is, the, word_is, the_word}
-use Rattle.ss_grammar_expressions.specs.Grammar.{HeldBehind, Held, no_place}
+use Rattle.ss_grammar_expressions.specs.Grammar.{HeldAfter, Held, no_place}
 use Rattle.ss_grammar_expressions.specs.Parser.{Gets, held}
 use Rattle.ss_grammar_expressions.proofs.Opening.{to_take_open}
 use Rattle.ss_grammar_expressions.proofs.Sets.{code, mem, In, subset, subset_in, PartOf, larger, listed, done, may_be_empty, token}
@@ -127,13 +127,13 @@ module _ {A B : Type 0} (n : ℕ) (f : Piece → Option B) (hs : List ℕ) (sub 
   agree zero (Some b) t ts = refl
   agree (suc d) (Some b) t ts = same d b ts
 
-  there : (d : ℕ) (x : Option B) (ts : List Piece) (v : A) → Pick (holds x) (holding x) d ts v → HeldBehind (may_open d) (K d) a x ts v
+  there : (d : ℕ) (x : Option B) (ts : List Piece) (v : A) → Pick (holds x) (holding x) d ts v → HeldAfter (may_open d) (K d) a x ts v
   there zero None ts v q = q
   there (suc d) None ts v q = q
   there zero (Some b) ts v q = q
   there (suc d) (Some b) ts v q = to d b ts v q
 
-  back : (d : ℕ) (x : Option B) (ts : List Piece) (v : A) → HeldBehind (may_open d) (K d) a x ts v → Pick (holds x) (holding x) d ts v
+  back : (d : ℕ) (x : Option B) (ts : List Piece) (v : A) → HeldAfter (may_open d) (K d) a x ts v → Pick (holds x) (holding x) d ts v
   back zero None ts v q = q
   back (suc d) None ts v q = q
   back zero (Some b) ts v q = q
@@ -141,11 +141,11 @@ module _ {A B : Type 0} (n : ℕ) (f : Piece → Option B) (hs : List ℕ) (sub 
 
   pub held_to_on : PartOf (suc n) (λ d. Held (may_open d) f (K d) a) (36 ∷ hs) goes false (λ d. take (tokened (or_left_out f)) (held d (k d) a))
   held_to_on = to_same (suc n) (λ d. Take (or_left_out f) (λ x. Pick (holds x) (holding x) d)) (λ d. Held (may_open d) f (K d) a) (In (36 ∷ hs)) (In goes) false (λ d. take (tokened (or_left_out f)) (held d (k d) a))
-      (λ d ts v q. take_in (or_left_out f) (λ x. Pick (holds x) (holding x) d) (HeldBehind (may_open d) (K d) a) (there d) ts v q)
-      (λ d ts v q. take_in (or_left_out f) (HeldBehind (may_open d) (K d) a) (λ x. Pick (holds x) (holding x) d) (back d) ts v q)
+      (λ d ts v q. take_in (or_left_out f) (λ x. Pick (holds x) (holding x) d) (HeldAfter (may_open d) (K d) a) (there d) ts v q)
+      (λ d ts v q. take_in (or_left_out f) (HeldAfter (may_open d) (K d) a) (λ x. Pick (holds x) (holding x) d) (back d) ts v q)
       (listed (suc n) (λ d. Take (or_left_out f) (λ x. Pick (holds x) (holding x) d)) (λ t. known (or_left_out f t)) (In goes) (36 ∷ hs) goes false (λ d. take (tokened (or_left_out f)) (held d (k d) a)) known_held (λ t h. h)
       (to_take_open n (or_left_out f) holds holding reads (In first) (In goes) true open_part leaf_part (λ d. held d (k d) a) agree (record { more = LeftOut ∷ []; value = a; reads = (refl, refl) })))
 
--- where nothing goes on behind it
+-- where nothing goes on after it
 pub held_to : {A B : Type 0} (n : ℕ) (f : Piece → Option B) (hs : List ℕ) (sub : (t : Piece) → known (f t) ≡ true → In hs t ≡ true) (M : B → ℕ → List Piece → A → Type 0) (m : B → ℕ → Gets A) (a : A) (first : List ℕ) (e : Bool) (parts : (b : B) → PartOf n (M b) first [] e (m b)) (K : ℕ → B → List Piece → A → Type 0) (k : ℕ → B → Gets A) (to : (d : ℕ) (b : B) (ts : List Piece) (v : A) → M b d ts v → K (suc d) b ts v) (from : (d : ℕ) (b : B) (ts : List Piece) (v : A) → K (suc d) b ts v → M b d ts v) (same : (d : ℕ) (b : B) (ts : List Piece) → m b d ts ≡ k (suc d) b ts) → PartOf (suc n) (λ d. Held (may_open d) f (K d) a) (36 ∷ hs) [] false (λ d. take (tokened (or_left_out f)) (held d (k d) a))
 held_to n f hs sub M m a first e parts K k to from same = held_to_on n f hs sub M m a first [] e parts K k to from same

@@ -1,4 +1,4 @@
--- Parts that stand behind a token, where some tokens open a level of nesting.
+-- Parts that stand after a token, where some tokens open a level of nesting.
 use Rattle.std.proofs.Common.{◌≡◌, ℕ, zero, suc, ◌<◌, ◌≤◌, List, [], ◌∷◌, ◌++◌, length, Option, Some, None, Result, Ok, Err, Bool, true, false, refl, sym, ap, subst, arith}
 use Rattle.std.specs.Prelude.{◌||◌}
 use Rattle.std.proofs.lemmas.List.{length-append, append-nil}
@@ -81,14 +81,14 @@ module _ {T B R : Type 0} (n : ℕ) (f : T → Option B) (opens : B → Bool) (M
   never : (b : B) → opens b ≡ true → (ts : List T) (v : R) → picks b zero ts v → ⊥
   never b h ts v p = subst (λ o. Pick o (M b) zero ts v) h p
 
-  -- what reading behind the token finds, where it may be read
+  -- what reading after the token finds, where it may be read
   leaf_finds : (b : B) (d : ℕ) → d < suc n → opens b ≡ false → (ts : List T) → Finds (picks b) d ts (m b d ts)
   leaf_finds b d lt h ts = subst (λ o. Finds (λ d. Pick o (M b) d) d ts (m b d ts)) (sym h) ((leaf_part b h).finds d lt ts)
 
   open_finds : (b : B) (d : ℕ) → suc d < suc n → opens b ≡ true → (ts : List T) → Finds (picks b) (suc d) ts (m b d ts)
   open_finds b d lt h ts = subst (λ o. Finds (λ d. Pick o (M b) d) (suc d) ts (m b d ts)) (sym h) (find_same (Inside (M b)) (λ d. Pick true (M b) d) (λ d ts v p. p) (λ d ts v p. p) (suc d) ts (m b d ts) (find_inside (M b) d ts (m b d ts) ((open_part b h).finds d (omega arith) ts)))
 
-  -- ---- the token and what is behind it
+  -- ---- the token and what is after it
 
   module _ (turn : ℕ → B × T → List T → Result (R × List T) (Fault × List T)) (agree : (d : ℕ) (b : B) (t : T) (ts : List T) → pick (opens b) d (m b) t ts ≡ turn d (b, t) ts) (some : Starts (Take f (λ b. Pick (opens b) (M b) 0)) []) where
     take_good_open : Good (λ d. Take f (λ b. Pick (opens b) (M b) d)) (λ t. known (f t)) goes false
@@ -138,28 +138,28 @@ shorter_rest t ts u rest n le e = omega (arith, ap length e, length-append u res
 -- ---- any number of times
 
 module _ {T A B R : Type 0} (n : ℕ) (f : T → Option B) (opens : B → Bool) (M : B → ℕ → List T → R → Type 0) (m : B → ℕ → List T → Result (R × List T) (Fault × List T)) (first goes : T → Bool) (empty : Bool) (open_part : (b : B) → opens b ≡ true → ReadsTo n (M b) first goes empty (m b)) (leaf_part : (b : B) → opens b ≡ false → ReadsTo (suc n) (M b) first goes empty (m b)) (join : A → B → R → A) (apart : (t : T) → goes t ≡ true → known (f t) ≡ true → ⊥) (turn : ℕ → B × T → List T → Result (R × List T) (Fault × List T)) (agree : (d : ℕ) (b : B) (t : T) (ts : List T) → pick (opens b) d (m b) t ts ≡ turn d (b, t) ts) where
-  abbrev behinds : B → ℕ → List T → R → Type 0
-  behinds b d = Pick (opens b) (M b) d
+  abbrev afters : B → ℕ → List T → R → Type 0
+  afters b d = Pick (opens b) (M b) d
 
-  facts_of : (b : B) → Facts (Any (behinds b)) first goes empty
+  facts_of : (b : B) → Facts (Any (afters b)) first goes empty
   facts_of = pick_facts n f opens M m first goes empty open_part leaf_part
 
-  grows_of : (b : B) → Grows (behinds b)
+  grows_of : (b : B) → Grows (afters b)
   grows_of = pick_grows n f opens M m first goes empty open_part leaf_part
 
-  many : (a : A) → Good (λ d. Many f (λ b. behinds b d) join a) (λ t. known (f t)) (λ t. known (f t) || goes t) true
-  many a = many_good_of f join behinds first goes empty facts_of grows_of apart a
+  many : (a : A) → Good (λ d. Many f (λ b. afters b d) join a) (λ t. known (f t)) (λ t. known (f t) || goes t) true
+  many a = many_good_of f join afters first goes empty facts_of grows_of apart a
 
   abbrev then_more : A → B → ℕ → List T → A → Type 0
-  then_more a b d = Bind (behinds b d) (λ r. Many f (λ b. behinds b d) join (join a b r))
+  then_more a b d = Bind (afters b d) (λ r. Many f (λ b. afters b d) join (join a b r))
 
-  to_many_of : (a : A) (d : ℕ) (ts : List T) (r : Result (A × List T) (Fault × List T)) → Finds (λ d. Maybe f (λ b. then_more a b d) a) d ts r → Finds (λ d. Many f (λ b. behinds b d) join a) d ts r
-  to_many_of a d ts r g = find_same (λ d. Maybe f (λ b. then_more a b d) a) (λ d. Many f (λ b. behinds b d) join a) (λ d ts v p. many_from f join (λ b. behinds b d) a ts v p) (λ d ts v p. many_to f join (λ b. behinds b d) a p.0 ts v p.1) d ts r g
+  to_many_of : (a : A) (d : ℕ) (ts : List T) (r : Result (A × List T) (Fault × List T)) → Finds (λ d. Maybe f (λ b. then_more a b d) a) d ts r → Finds (λ d. Many f (λ b. afters b d) join a) d ts r
+  to_many_of a d ts r g = find_same (λ d. Maybe f (λ b. then_more a b d) a) (λ d. Many f (λ b. afters b d) join a) (λ d ts v p. many_from f join (λ b. afters b d) a ts v p) (λ d ts v p. many_to f join (λ b. afters b d) a p.0 ts v p.1) d ts r g
 
   abbrev joins : A → B × T → R → A
   joins a x r = join a x.0 r
 
-  living : (b : B) → Starts (behinds b 1) []
+  living : (b : B) → Starts (afters b 1) []
   living = lives n f opens M m first goes empty open_part leaf_part
 
   then_never : (a : A) (b : B) → opens b ≡ true → (ts : List T) (v : A) → then_more a b zero ts v → ⊥
@@ -173,34 +173,34 @@ module _ {T A B R : Type 0} (n : ℕ) (f : T → Option B) (opens : B → Bool) 
   }
 
   then_grows : (a : A) (b : B) → Grows (then_more a b)
-  then_grows a b d ts v p = bind_in (behinds b d) (behinds b (suc d)) (λ r. Many f (λ b. behinds b d) join (join a b r)) (λ r. Many f (λ b. behinds b (suc d)) join (join a b r)) (λ ts v q. grows_of b d ts v q) (λ r ts v q. (many (join a b r)).grows d ts v q) ts v p
+  then_grows a b d ts v p = bind_in (afters b d) (afters b (suc d)) (λ r. Many f (λ b. afters b d) join (join a b r)) (λ r. Many f (λ b. afters b (suc d)) join (join a b r)) (λ ts v q. grows_of b d ts v q) (λ r ts v q. (many (join a b r)).grows d ts v q) ts v p
 
-  leaf_good : (b : B) → opens b ≡ false → Good (behinds b) first goes empty
+  leaf_good : (b : B) → opens b ≡ false → Good (afters b) first goes empty
   leaf_good b h = subst (λ o. Good (λ d. Pick o (M b) d) first goes empty) (sym h) (leaf_part b h).good
 
-  above_good : (b : B) → Good (λ d. behinds b (suc d)) first goes empty
-  above_good b = record { facts = narrow (Any (behinds b)) (Any (λ d. behinds b (suc d))) first goes empty (λ ts v p. (suc p.0, p.1)) (facts_of b); grows = λ d. grows_of b (suc d); some = living b }
+  above_good : (b : B) → Good (λ d. afters b (suc d)) first goes empty
+  above_good b = record { facts = narrow (Any (afters b)) (Any (λ d. afters b (suc d))) first goes empty (λ ts v p. (suc p.0, p.1)) (facts_of b); grows = λ d. grows_of b (suc d); some = living b }
 
-  module _ (k : ℕ) (d : ℕ) (more : (a : A) (ts : List T) → length ts ≤ k → Finds (λ d. Many f (λ b. behinds b d) join a) d ts (times (tokened f) (turn d) joins k a ts)) where
-    leaf_bound : (a : A) (b : B) (t : T) (ts : List T) (r : Result (R × List T) (Fault × List T)) → length (t ∷ ts) ≤ suc k → opens b ≡ false → Finds (behinds b) d ts r → Finds (then_more a b) d ts (r >>= λ x. times (tokened f) (turn d) joins k (join a b x.0) x.1)
-    leaf_bound a b t ts r le h g = find_bind (behinds b) (λ r d. Many f (λ b. behinds b d) join (join a b r)) first goes (λ t. known (f t)) (λ t. known (f t) || goes t) empty true (leaf_good b h) (λ r. many (join a b r)) apart d ts r (λ x. times (tokened f) (turn d) joins k (join a b x.0) x.1) g (λ r front z parts. more (join a b r) z (shorter_rest t ts front z k le parts))
+  module _ (k : ℕ) (d : ℕ) (more : (a : A) (ts : List T) → length ts ≤ k → Finds (λ d. Many f (λ b. afters b d) join a) d ts (times (tokened f) (turn d) joins k a ts)) where
+    leaf_bound : (a : A) (b : B) (t : T) (ts : List T) (r : Result (R × List T) (Fault × List T)) → length (t ∷ ts) ≤ suc k → opens b ≡ false → Finds (afters b) d ts r → Finds (then_more a b) d ts (r >>= λ x. times (tokened f) (turn d) joins k (join a b x.0) x.1)
+    leaf_bound a b t ts r le h g = find_bind (afters b) (λ r d. Many f (λ b. afters b d) join (join a b r)) first goes (λ t. known (f t)) (λ t. known (f t) || goes t) empty true (leaf_good b h) (λ r. many (join a b r)) apart d ts r (λ x. times (tokened f) (turn d) joins k (join a b x.0) x.1) g (λ r front z parts. more (join a b r) z (shorter_rest t ts front z k le parts))
 
-  module _ (k : ℕ) (d : ℕ) (more : (a : A) (ts : List T) → length ts ≤ k → Finds (λ d. Many f (λ b. behinds b d) join a) (suc d) ts (times (tokened f) (turn (suc d)) joins k a ts)) where
-    open_bound : (a : A) (b : B) (t : T) (ts : List T) (r : Result (R × List T) (Fault × List T)) → length (t ∷ ts) ≤ suc k → Finds (behinds b) (suc d) ts r → Finds (then_more a b) (suc d) ts (r >>= λ x. times (tokened f) (turn (suc d)) joins k (join a b x.0) x.1)
+  module _ (k : ℕ) (d : ℕ) (more : (a : A) (ts : List T) → length ts ≤ k → Finds (λ d. Many f (λ b. afters b d) join a) (suc d) ts (times (tokened f) (turn (suc d)) joins k a ts)) where
+    open_bound : (a : A) (b : B) (t : T) (ts : List T) (r : Result (R × List T) (Fault × List T)) → length (t ∷ ts) ≤ suc k → Finds (afters b) (suc d) ts r → Finds (then_more a b) (suc d) ts (r >>= λ x. times (tokened f) (turn (suc d)) joins k (join a b x.0) x.1)
     open_bound a b t ts r le g =
         unshift (then_more a b) (then_grows a b) d ts (r >>= λ x. times (tokened f) (turn (suc d)) joins k (join a b x.0) x.1)
-        (find_bind (λ d. behinds b (suc d)) (λ r d. Many f (λ b. behinds b (suc d)) join (join a b r)) first goes (λ t. known (f t)) (λ t. known (f t) || goes t) empty true (above_good b) (λ r. shift_good (λ d. Many f (λ b. behinds b d) join (join a b r)) (λ t. known (f t)) (λ t. known (f t) || goes t) true (many (join a b r))) apart d ts r (λ x. times (tokened f) (turn (suc d)) joins k (join a b x.0) x.1) (shift (behinds b) d ts r g) (λ r front z parts. shift (λ d. Many f (λ b. behinds b d) join (join a b r)) d z (times (tokened f) (turn (suc d)) joins k (join a b r) z) (more (join a b r) z (shorter_rest t ts front z k le parts))))
+        (find_bind (λ d. afters b (suc d)) (λ r d. Many f (λ b. afters b (suc d)) join (join a b r)) first goes (λ t. known (f t)) (λ t. known (f t) || goes t) empty true (above_good b) (λ r. shift_good (λ d. Many f (λ b. afters b d) join (join a b r)) (λ t. known (f t)) (λ t. known (f t) || goes t) true (many (join a b r))) apart d ts r (λ x. times (tokened f) (turn (suc d)) joins k (join a b x.0) x.1) (shift (afters b) d ts r g) (λ r front z parts. shift (λ d. Many f (λ b. afters b d) join (join a b r)) d z (times (tokened f) (turn (suc d)) joins k (join a b r) z) (more (join a b r) z (shorter_rest t ts front z k le parts))))
 
-  many_picked : (k : ℕ) (d : ℕ) → d < suc n → (more : (a : A) (ts : List T) → length ts ≤ k → Finds (λ d. Many f (λ b. behinds b d) join a) d ts (times (tokened f) (turn d) joins k a ts)) → (a : A) (t : T) (b : B) → f t ≡ Some b → (ts : List T) → length (t ∷ ts) ≤ suc k → (o : Bool) → opens b ≡ o → Finds (λ d. Maybe f (λ b. then_more a b d) a) d (t ∷ ts) (pick o d (m b) t ts >>= λ x. times (tokened f) (turn d) joins k (join a b x.0) x.1)
+  many_picked : (k : ℕ) (d : ℕ) → d < suc n → (more : (a : A) (ts : List T) → length ts ≤ k → Finds (λ d. Many f (λ b. afters b d) join a) d ts (times (tokened f) (turn d) joins k a ts)) → (a : A) (t : T) (b : B) → f t ≡ Some b → (ts : List T) → length (t ∷ ts) ≤ suc k → (o : Bool) → opens b ≡ o → Finds (λ d. Maybe f (λ b. then_more a b d) a) d (t ∷ ts) (pick o d (m b) t ts >>= λ x. times (tokened f) (turn d) joins k (join a b x.0) x.1)
   many_picked k d lt more a t b e ts le false h = find_some f (then_more a) a t b e d ts (m b d ts >>= λ x. times (tokened f) (turn d) joins k (join a b x.0) x.1) (leaf_bound k d more a b t ts (m b d ts) le h (leaf_finds n f opens M m first goes empty open_part leaf_part b d lt h ts))
   many_picked k zero lt more a t b e ts le true h = find_maybe_deep f (then_more a) a t b e zero ts (then_never a b h) (then_lives a b)
   many_picked k (suc d) lt more a t b e ts le true h = find_some f (then_more a) a t b e (suc d) ts (m b d ts >>= λ x. times (tokened f) (turn (suc d)) joins k (join a b x.0) x.1) (open_bound k d more a b t ts (m b d ts) le (open_finds n f opens M m first goes empty open_part leaf_part b d lt h ts))
 
-  many_at : (k : ℕ) (d : ℕ) → d < suc n → (more : (a : A) (ts : List T) → length ts ≤ k → Finds (λ d. Many f (λ b. behinds b d) join a) d ts (times (tokened f) (turn d) joins k a ts)) → (a : A) (t : T) (o : Option B) → f t ≡ o → (ts : List T) → length (t ∷ ts) ≤ suc k → Finds (λ d. Maybe f (λ b. then_more a b d) a) d (t ∷ ts) (after (tokened_as o t) (λ x rest. turn d x rest >>= λ y. times (tokened f) (turn d) joins k (joins a x y.0) y.1) (Ok (a, t ∷ ts)) ts)
+  many_at : (k : ℕ) (d : ℕ) → d < suc n → (more : (a : A) (ts : List T) → length ts ≤ k → Finds (λ d. Many f (λ b. afters b d) join a) d ts (times (tokened f) (turn d) joins k a ts)) → (a : A) (t : T) (o : Option B) → f t ≡ o → (ts : List T) → length (t ∷ ts) ≤ suc k → Finds (λ d. Maybe f (λ b. then_more a b d) a) d (t ∷ ts) (after (tokened_as o t) (λ x rest. turn d x rest >>= λ y. times (tokened f) (turn d) joins k (joins a x y.0) y.1) (Ok (a, t ∷ ts)) ts)
   many_at k d lt more a t None e ts le = find_other f (then_more a) a t e d ts
   many_at k d lt more a t (Some b) e ts le = subst (λ r. Finds (λ d. Maybe f (λ b. then_more a b d) a) d (t ∷ ts) (r >>= λ x. times (tokened f) (turn d) joins k (join a b x.0) x.1)) (agree d b t ts) (many_picked k d lt more a t b e ts le (opens b) refl)
 
-  find_times : (d : ℕ) → d < suc n → (k : ℕ) (a : A) (ts : List T) → length ts ≤ k → Finds (λ d. Many f (λ b. behinds b d) join a) d ts (times (tokened f) (turn d) joins k a ts)
+  find_times : (d : ℕ) → d < suc n → (k : ℕ) (a : A) (ts : List T) → length ts ≤ k → Finds (λ d. Many f (λ b. afters b d) join a) d ts (times (tokened f) (turn d) joins k a ts)
   find_times d lt zero a [] le = to_many_of a d [] (Ok (a, [])) (find_end f (then_more a) a d)
   find_times d lt zero a (t ∷ ts) le = absurd (omega arith)
   find_times d lt (suc k) a [] le = to_many_of a d [] (Ok (a, [])) (find_end f (then_more a) a d)
@@ -209,11 +209,11 @@ module _ {T A B R : Type 0} (n : ℕ) (f : T → Option B) (opens : B → Bool) 
   pub to_many_open_of : (a : A) → ReadsTo (suc n) (λ d. Many f (λ b. Pick (opens b) (M b) d) join a) (λ t. known (f t)) (λ t. known (f t) || goes t) true (λ d ts. times (tokened f) (turn d) (λ a x r. join a x.0 r) (length ts) a ts)
   to_many_open_of a = record { good = many a; finds = λ d lt ts. find_times d lt (length ts) a ts (omega arith) }
 
--- where each takes a token at least behind the one that is known
+-- where each takes a token at least after the one that is known
 pub to_many_open : {T A B R : Type 0} (n : ℕ) (f : T → Option B) (opens : B → Bool) (M : B → ℕ → List T → R → Type 0) (m : B → ℕ → List T → Result (R × List T) (Fault × List T)) (first goes : T → Bool) (open_part : (b : B) → opens b ≡ true → ReadsTo n (M b) first goes false (m b)) (leaf_part : (b : B) → opens b ≡ false → ReadsTo (suc n) (M b) first goes false (m b)) (join : A → B → R → A) (apart : (t : T) → goes t ≡ true → known (f t) ≡ true → ⊥) (turn : ℕ → B × T → List T → Result (R × List T) (Fault × List T)) (agree : (d : ℕ) (b : B) (t : T) (ts : List T) → pick (opens b) d (m b) t ts ≡ turn d (b, t) ts) (a : A) → ReadsTo (suc n) (λ d. Many f (λ b. Pick (opens b) (M b) d) join a) (λ t. known (f t)) (λ t. known (f t) || goes t) true (λ d ts. times (tokened f) (turn d) (λ a x r. join a x.0 r) (length ts) a ts)
 to_many_open n f opens M m first goes open_part leaf_part join apart turn agree a = to_many_open_of n f opens M m first goes false open_part leaf_part join apart turn agree a
 
--- a token and what is behind it, or nothing, where no level is opened
+-- a token and what is after it, or nothing, where no level is opened
 pub to_maybe_plain : {T A B : Type 0} (n : ℕ) (f : T → Option B) (K : B → ℕ → List T → A → Type 0) (first goes : T → Bool) (empty : Bool) (k : B → ℕ → List T → Result (A × List T) (Fault × List T)) → ((b : B) → ReadsTo n (K b) first goes empty (k b)) → (a : A) → ReadsTo n (λ d. Maybe f (λ b. K b d) a) (λ t. known (f t)) (λ t. known (f t) || goes t) true (λ d. maybe f (λ b. k b d) a)
 to_maybe_plain n f K first goes empty k r a = record {
   good = maybe_good f K first goes empty (λ b. (r b).good.facts) (λ b. (r b).good.grows) a;

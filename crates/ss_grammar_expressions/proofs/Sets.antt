@@ -117,7 +117,7 @@ module _ {A : Type 0} (n : ℕ) where
   may_be_empty L f g e p q = to_wide n L (In f) (In g) (In f) (In g) e true p (λ t h. h) (λ t h. h) (λ h. refl) q
 
 module _ {A B : Type 0} (n : ℕ) where
-  -- one token and what is behind it
+  -- one token and what is after it
   pub token : (h : Piece → Option B) (hs : List ℕ) → ((t : Piece) → known (h t) ≡ true → In hs t ≡ true) → (K : B → ℕ → List Piece → A → Type 0) (f g : List ℕ) (e : Bool) (k : B → ℕ → List Piece → Result (A × List Piece) (Fault × List Piece)) → ((b : B) → PartOf n (K b) f g e (k b)) → (t : Piece) (b : B) → h t ≡ Some b → PartOf n (λ d. Take h (λ b. K b d)) hs g false (λ d. take h (λ b. k b d))
   token h hs sub K f g e k r t b i = listed n (λ d. Take h (λ b. K b d)) (λ t. known (h t)) (In g) hs g false (λ d. take h (λ b. k b d)) sub (λ t h. h) (to_take n h K (In f) (In g) e k r t b i)
 
@@ -131,7 +131,7 @@ module _ {A B : Type 0} (n : ℕ) where
       })
 
 module _ {A B R : Type 0} (n : ℕ) where
-  -- any number of a token and what is behind it
+  -- any number of a token and what is after it
   pub many : (h : Piece → Option B) (hs : List ℕ) → ((t : Piece) → known (h t) ≡ true → In hs t ≡ true) → (K : B → ℕ → List Piece → R → Type 0) (join : A → B → R → A) (f g : List ℕ) (k : B → ℕ → List Piece → Result (R × List Piece) (Fault × List Piece)) → ((b : B) → PartOf n (K b) f g false (k b)) → disjoint g hs ≡ true → (a : A) → PartOf n (λ d. Many h (λ b. K b d) join a) hs (hs ++ g) true (λ d ts. times h (λ b. k b d) join (length ts) a ts)
   many h hs sub K join f g k r s a = listed n (λ d. Many h (λ b. K b d) join a) (λ t. known (h t)) (λ t. known (h t) || In g t) hs (hs ++ g) true (λ d ts. times h (λ b. k b d) join (length ts) a ts) sub
       (λ t q. or_in (code t) hs g true (or_widen (known (h t)) (In hs t) (In g t) (sub t) q))

@@ -13,8 +13,8 @@ use Rattle.ss_grammar.proofs.Good.{take_in}
 use Rattle.ss_grammar.proofs.Parts.{Pick, pick, to_as, to_same}
 use Rattle.ss_grammar_expressions.specs.First.{Choose, Here, choose, here}
 use Rattle.ss_grammar_expressions.specs.Heads.{Piece, place_at, is, the, the_least, a_name, TypeHead, type_word, castable, Head, NegateHead, NotHead, OpenHead, Leaf, OldHead, NewHead, QuantifierHead, unary_head, head_opens}
-use Rattle.ss_grammar_expressions.specs.Grammar.{Part, TheUnary, TheExpression, TheTypeEnd, TheNamed, TheRange, Enclosed, AType, AnExpr, Value, Parts, type_of, ParenEnd, no_place, Postfixes, New, Old, Quantified, CastEnd, CastOnly, AfterParen, BareEnd, Closed, NameBehind, head_of, named, WordParen, NameParen, OtherParen, Paren, Negated, UnaryBehind, Unary}
-use Rattle.ss_grammar_expressions.specs.Parser.{Gets, Inner, opened, paren_end, postfixes, new, old, quantified, cast_end, cast_only, after_paren, bare_end, closed, enclosed, word_paren, name_paren, other_paren, paren, negation, negated, unary_behind, unary}
+use Rattle.ss_grammar_expressions.specs.Grammar.{Part, TheUnary, TheExpression, TheTypeEnd, TheNamed, TheRange, Enclosed, AType, AnExpr, Value, Parts, type_of, ParenEnd, no_place, Postfixes, New, Old, Quantified, CastEnd, CastOnly, AfterParen, BareEnd, Closed, NameAfter, head_of, named, WordParen, NameParen, OtherParen, Paren, Negated, UnaryAfter, Unary}
+use Rattle.ss_grammar_expressions.specs.Parser.{Gets, Inner, opened, paren_end, postfixes, new, old, quantified, cast_end, cast_only, after_paren, bare_end, closed, enclosed, word_paren, name_paren, other_paren, paren, negation, negated, unary_after, unary}
 use Rattle.ss_grammar_expressions.proofs.First.{Alive, to_choose, to_only, to_here}
 use Rattle.ss_grammar_expressions.proofs.Opening.{to_take_open, to_above, head_alive}
 use Rattle.ss_grammar_expressions.proofs.Sets.{code, In, subset, subset_in, disjoint, PartOf, larger, listed, may_be_empty, token, seq}
@@ -28,7 +28,7 @@ number_piece = of (ANumber 0)
 abbrev pub type_set : List ℕ
 type_set = 17 ∷ 31 ∷ []
 
--- what may stand behind `(` and a name, and what goes on with it
+-- what may stand after `(` and a name, and what goes on with it
 abbrev pub named_set : List ℕ
 named_set = 31 ∷ expr_goes
 
@@ -102,12 +102,12 @@ module _ (n : ℕ) (U : (i : Part) → ℕ → List Piece → Value i → Type 0
   unfolding cast_sample
   bare_sample p x = let s = cast_sample p (type_of (head_of x) false false) in (of (ASymbol symbol.Close), s.0 ∷ s.1, s.2, refl, s.4)
 
-  name_behind_to : (p : Place) (x : NameTree) → PartOf n (λ d. NameBehind (Vi d) p x) (named_set ++ 16 ∷ []) unary_goes false (λ d. name_paren (suc d) (wi d) p x)
+  name_after_to : (p : Place) (x : NameTree) → PartOf n (λ d. NameAfter (Vi d) p x) (named_set ++ 16 ∷ []) unary_goes false (λ d. name_paren (suc d) (wi d) p x)
   unfolding name_paren
-  name_behind_to p x = to_choose n (is (the symbol.Close)) (λ d. Take (the symbol.Close) (λ _. BareEnd (Vi d) p x)) (λ d. Bind (U (TheNamed x) d) (λ c. Take (the symbol.Close) (λ _. Closed (Vi d) p c))) (In (named_set ++ 16 ∷ [])) (In unary_goes) false (λ d. take (the symbol.Close) (λ _. bare_end (suc d) (wi d) p x)) (λ d. enclosed (suc d) (wi d) p x) (In (16 ∷ [])) (bare_to p x) (λ y h. subset_in (code y) (16 ∷ []) (named_set ++ 16 ∷ []) refl (the_in symbol.Close y h)) (enclosed_to p x) (λ h. absurd cc) (λ h. absurd cc) (bare_sample p x)
+  name_after_to p x = to_choose n (is (the symbol.Close)) (λ d. Take (the symbol.Close) (λ _. BareEnd (Vi d) p x)) (λ d. Bind (U (TheNamed x) d) (λ c. Take (the symbol.Close) (λ _. Closed (Vi d) p c))) (In (named_set ++ 16 ∷ [])) (In unary_goes) false (λ d. take (the symbol.Close) (λ _. bare_end (suc d) (wi d) p x)) (λ d. enclosed (suc d) (wi d) p x) (In (16 ∷ [])) (bare_to p x) (λ y h. subset_in (code y) (16 ∷ []) (named_set ++ 16 ∷ []) refl (the_in symbol.Close y h)) (enclosed_to p x) (λ h. absurd cc) (λ h. absurd cc) (bare_sample p x)
 
   name_paren_to : (p : Place) → PartOf n (λ d. NameParen (Vi d) p) (32 ∷ []) unary_goes false (λ d. take a_name (name_paren (suc d) (wi d) p))
-  name_paren_to p = token n a_name (32 ∷ []) name_in (λ x d. NameBehind (Vi d) p x) (named_set ++ 16 ∷ []) unary_goes false (λ x d. name_paren (suc d) (wi d) p x) (name_behind_to p) (of (AName [])) (record { text = []; place = no_place }) refl
+  name_paren_to p = token n a_name (32 ∷ []) name_in (λ x d. NameAfter (Vi d) p x) (named_set ++ 16 ∷ []) unary_goes false (λ x d. name_paren (suc d) (wi d) p x) (name_after_to p) (of (AName [])) (record { text = []; place = no_place }) refl
 
   other_paren_to : (p : Place) → PartOf n (λ d. OtherParen (Vi d) p) unary_first unary_goes false (λ d. other_paren (suc d) (wi d) p)
   unfolding other_paren
@@ -172,13 +172,13 @@ module _ (n : ℕ) (U : (i : Part) → ℕ → List Piece → Value i → Type 0
   head_part (QuantifierHead p q) d = Bind (Quantified (may_open d) (V d) p q) (Postfixes (may_open d) (V d) p)
 
   abbrev head_reader : Head → ℕ → Gets ExprTree
-  head_reader (NegateHead p) d = unary_behind (suc d) (wi d) (NegateHead p)
-  head_reader (NotHead p) d = unary_behind (suc d) (wi d) (NotHead p)
-  head_reader (OpenHead p) d = unary_behind (suc d) (wi d) (OpenHead p)
-  head_reader (Leaf p v) d = unary_behind d (w d) (Leaf p v)
-  head_reader (OldHead p) d = unary_behind d (w d) (OldHead p)
-  head_reader (NewHead p) d = unary_behind d (w d) (NewHead p)
-  head_reader (QuantifierHead p q) d = unary_behind d (w d) (QuantifierHead p q)
+  head_reader (NegateHead p) d = unary_after (suc d) (wi d) (NegateHead p)
+  head_reader (NotHead p) d = unary_after (suc d) (wi d) (NotHead p)
+  head_reader (OpenHead p) d = unary_after (suc d) (wi d) (OpenHead p)
+  head_reader (Leaf p v) d = unary_after d (w d) (Leaf p v)
+  head_reader (OldHead p) d = unary_after d (w d) (OldHead p)
+  head_reader (NewHead p) d = unary_after d (w d) (NewHead p)
+  head_reader (QuantifierHead p q) d = unary_after d (w d) (QuantifierHead p q)
 
   abbrev head_first : List ℕ
   head_first = 36 ∷ 13 ∷ 22 ∷ 17 ∷ 50 ∷ 51 ∷ 52 ∷ unary_first
@@ -190,7 +190,7 @@ module _ (n : ℕ) (U : (i : Part) → ℕ → List Piece → Value i → Type 0
   loose_above L f g e p a b r = larger (suc n) L f g head_first unary_goes true p a b (may_be_empty (suc n) L f g e p r)
 
   open_head : (h : Head) → head_opens h ≡ true → PartOf n (head_part h) head_first unary_goes true (head_reader h)
-  unfolding unary_behind
+  unfolding unary_after
   open_head (NegateHead p) e = loose (head_part (NegateHead p)) unary_first unary_goes false (head_reader (NegateHead p)) refl refl (negated_to p)
   open_head (NotHead p) e = loose (head_part (NotHead p)) unary_first unary_goes false (head_reader (NotHead p)) refl refl (to_as n (U TheUnary) (In unary_first) (In unary_goes) (u TheUnary) (λ e. NotOf p e) un)
   open_head (OpenHead p) e = loose (head_part (OpenHead p)) (50 ∷ 51 ∷ 52 ∷ unary_first) unary_goes false (head_reader (OpenHead p)) refl refl (paren_to p)
@@ -200,7 +200,7 @@ module _ (n : ℕ) (U : (i : Part) → ℕ → List Piece → Value i → Type 0
   open_head (QuantifierHead p q) e = absurd cc
 
   leaf_head : (h : Head) → head_opens h ≡ false → PartOf (suc n) (head_part h) head_first unary_goes true (head_reader h)
-  unfolding unary_behind
+  unfolding unary_after
   leaf_head (NegateHead p) e = absurd cc
   leaf_head (NotHead p) e = absurd cc
   leaf_head (OpenHead p) e = absurd cc
@@ -212,7 +212,7 @@ module _ (n : ℕ) (U : (i : Part) → ℕ → List Piece → Value i → Type 0
   leaf_head (QuantifierHead p q) e = loose_above (head_part (QuantifierHead p q)) (36 ∷ 13 ∷ []) postfix_set false (head_reader (QuantifierHead p q)) refl refl
       (seq (suc n) false true (λ d. Quantified (may_open d) (V d) p q) (λ a d. Postfixes (may_open d) (V d) p a) (36 ∷ 13 ∷ []) [] postfix_set postfix_set (λ d. quantified d (w d) p q) (λ a d. postfixes d (w d) p a) (quantified_to n U u inner range_part p q) (postfixes_to n U u inner range_part p) refl)
 
-  head_agree : (d : ℕ) (h : Head) (t : Piece) (ts : List Piece) → pick (head_opens h) d (head_reader h) t ts ≡ opened (head_opens h) d (unary_behind d (w d) h) t ts
+  head_agree : (d : ℕ) (h : Head) (t : Piece) (ts : List Piece) → pick (head_opens h) d (head_reader h) t ts ≡ opened (head_opens h) d (unary_after d (w d) h) t ts
   head_agree zero (NegateHead p) t ts = refl
   head_agree (suc d) (NegateHead p) t ts = refl
   head_agree zero (NotHead p) t ts = refl
@@ -224,7 +224,7 @@ module _ (n : ℕ) (U : (i : Part) → ℕ → List Piece → Value i → Type 0
   head_agree d (NewHead p) t ts = refl
   head_agree d (QuantifierHead p q) t ts = refl
 
-  head_there : (d : ℕ) (h : Head) (ts : List Piece) (v : ExprTree) → Pick (head_opens h) (head_part h) d ts v → UnaryBehind (may_open d) (V d) h ts v
+  head_there : (d : ℕ) (h : Head) (ts : List Piece) (v : ExprTree) → Pick (head_opens h) (head_part h) d ts v → UnaryAfter (may_open d) (V d) h ts v
   head_there zero (NegateHead p) ts v q = q
   head_there (suc d) (NegateHead p) ts v q = q
   head_there zero (NotHead p) ts v q = q
@@ -236,7 +236,7 @@ module _ (n : ℕ) (U : (i : Part) → ℕ → List Piece → Value i → Type 0
   head_there d (NewHead p) ts v q = q
   head_there d (QuantifierHead p k) ts v q = q
 
-  head_back : (d : ℕ) (h : Head) (ts : List Piece) (v : ExprTree) → UnaryBehind (may_open d) (V d) h ts v → Pick (head_opens h) (head_part h) d ts v
+  head_back : (d : ℕ) (h : Head) (ts : List Piece) (v : ExprTree) → UnaryAfter (may_open d) (V d) h ts v → Pick (head_opens h) (head_part h) d ts v
   head_back zero (NegateHead p) ts v q = q
   head_back (suc d) (NegateHead p) ts v q = q
   head_back zero (NotHead p) ts v q = q
@@ -251,10 +251,10 @@ module _ (n : ℕ) (U : (i : Part) → ℕ → List Piece → Value i → Type 0
   pub unary_to : PartOf (suc n) (λ d. Unary (may_open d) (V d)) unary_first unary_goes false (λ d. unary d (w d))
   unfolding unary
   unary_to = to_same (suc n) (λ d. Take unary_head (λ h. Pick (head_opens h) (head_part h) d)) (λ d. Unary (may_open d) (V d)) (In unary_first) (In unary_goes) false (λ d. unary d (w d))
-      (λ d ts v q. take_in unary_head (λ h. Pick (head_opens h) (head_part h) d) (UnaryBehind (may_open d) (V d)) (head_there d) ts v q)
-      (λ d ts v q. take_in unary_head (UnaryBehind (may_open d) (V d)) (λ h. Pick (head_opens h) (head_part h) d) (head_back d) ts v q)
+      (λ d ts v q. take_in unary_head (λ h. Pick (head_opens h) (head_part h) d) (UnaryAfter (may_open d) (V d)) (head_there d) ts v q)
+      (λ d ts v q. take_in unary_head (UnaryAfter (may_open d) (V d)) (λ h. Pick (head_opens h) (head_part h) d) (head_back d) ts v q)
       (listed (suc n) (λ d. Take unary_head (λ h. Pick (head_opens h) (head_part h) d)) (λ t. known (unary_head t)) (In unary_goes) unary_first unary_goes false (λ d. unary d (w d)) unary_in (λ t h. h)
-      (to_take_open n unary_head head_opens head_part head_reader (In head_first) (In unary_goes) true open_head leaf_head (λ d x. opened (head_opens x.0) d (unary_behind d (w d) x.0) x.1) head_agree (record { more = number_piece ∷ []; value = NumberOf no_place (pos 0); reads = (0, (refl, refl)) })))
+      (to_take_open n unary_head head_opens head_part head_reader (In head_first) (In unary_goes) true open_head leaf_head (λ d x. opened (head_opens x.0) d (unary_after d (w d) x.0) x.1) head_agree (record { more = number_piece ∷ []; value = NumberOf no_place (pos 0); reads = (0, (refl, refl)) })))
 
   pub unary_starts : Starts (Unary (may_open 0) (V 0)) (number_piece ∷ [])
   unary_starts = record { more = []; value = NumberOf no_place (pos 0); reads = (0, (refl, refl)) }
@@ -266,7 +266,7 @@ module _ (n : ℕ) (U : (i : Part) → ℕ → List Piece → Value i → Type 0
       at None e k = absurd cc
       at (Some b) e k =
           let a = head_alive n unary_head head_opens head_part head_reader (In head_first) (In unary_goes) true open_head leaf_head t b e in
-          (a.0, record { more = a.1.more; value = a.1.value; reads = take_in unary_head (λ h. Pick (head_opens h) (head_part h) a.0) (UnaryBehind (may_open a.0) (V a.0)) (head_there a.0) ((t ∷ []) ++ a.1.more) a.1.value a.1.reads })
+          (a.0, record { more = a.1.more; value = a.1.value; reads = take_in unary_head (λ h. Pick (head_opens h) (head_part h) a.0) (UnaryAfter (may_open a.0) (V a.0)) (head_there a.0) ((t ∷ []) ++ a.1.more) a.1.value a.1.reads })
 
 -- ---- chains of operators, where X is a unary expression
 

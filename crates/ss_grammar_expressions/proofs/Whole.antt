@@ -10,9 +10,9 @@ use Rattle.ss_grammar.proofs.Facts.{known}
 use Rattle.ss_grammar.proofs.Good.{take_in}
 use Rattle.ss_grammar.proofs.Parts.{Pick, pick, to_same}
 use Rattle.ss_grammar_expressions.specs.First.{tokened}
-use Rattle.ss_grammar_expressions.specs.Heads.{Piece, is, the, NamedHead, BangBehind, BracketBehind, named_head, named_opens}
-use Rattle.ss_grammar_expressions.specs.Grammar.{Part, TheImplication, TheExpression, TheRange, Enclosed, AType, AnExpr, Value, Parts, BangEnd, type_of, IndexEnd, head_of, named, no_place, Postfixes, Unary, ExpressionFrom, RestOf, ElementOrArray, NamedBehind, Named}
-use Rattle.ss_grammar_expressions.specs.Parser.{Gets, Inner, give, opened, bang_end, index_end, postfixes, unary, expression_from, rest_of, array_end, element_end, element_or_array, named_behind, named_rest, named_end}
+use Rattle.ss_grammar_expressions.specs.Heads.{Piece, is, the, NamedHead, BangAfter, BracketAfter, named_head, named_opens}
+use Rattle.ss_grammar_expressions.specs.Grammar.{Part, TheImplication, TheExpression, TheRange, Enclosed, AType, AnExpr, Value, Parts, BangEnd, type_of, IndexEnd, head_of, named, no_place, Postfixes, Unary, ExpressionFrom, RestOf, ElementOrArray, NamedAfter, Named}
+use Rattle.ss_grammar_expressions.specs.Parser.{Gets, Inner, give, opened, bang_end, index_end, postfixes, unary, expression_from, rest_of, array_end, element_end, element_or_array, named_after, named_rest, named_end}
 use Rattle.ss_grammar_expressions.proofs.First.{Alive, to_choose}
 use Rattle.ss_grammar_expressions.proofs.Opening.{to_take_open, to_above, head_alive}
 use Rattle.ss_grammar_expressions.proofs.Sets.{code, In, subset_in, PartOf, larger, listed, done, may_be_empty, seq}
@@ -22,7 +22,7 @@ use Rattle.ss_grammar_expressions.proofs.Expressions.{inner_parts, inner_readers
 use Rattle.ss_grammar_expressions.proofs.Unaries.{number_piece, named_set}
 use Rattle.ss_grammar_expressions.proofs.Chains.{expression_from_to}
 
--- ---- behind `(` and a name
+-- ---- after `(` and a name
 
 module _ (n : ℕ) (U : (i : Part) → ℕ → List Piece → Value i → Type 0) (u : (i : Part) → ℕ → Gets (Value i)) (inner : PartOf n (U TheExpression) unary_first expr_goes false (u TheExpression)) (range_part : PartOf n (U TheRange) (36 ∷ 15 ∷ []) [] false (u TheRange)) (imp : PartOf n (U TheImplication) unary_first imp_goes false (u TheImplication)) (un : PartOf (suc n) (λ d. Unary (may_open d) (inner_parts U d)) unary_first unary_goes false (λ d. unary d (inner_readers u d))) where
   abbrev V : ℕ → Parts
@@ -62,56 +62,56 @@ module _ (n : ℕ) (U : (i : Part) → ℕ → List Piece → Value i → Type 0
       (of (ASymbol symbol.CloseBracket), [], AType (type_of (head_of x) true false), refl, record { first = false; front = []; back = []; parts = refl; reads = refl; goes_on = (refl, refl) })
 
   abbrev named_part : NameTree → NamedHead → ℕ → List Piece → Enclosed → Type 0
-  named_part x BangBehind d = Done (AType (type_of (head_of x) false true))
-  named_part x BracketBehind d = ElementOrArray true (λ i. U i d) x
+  named_part x BangAfter d = Done (AType (type_of (head_of x) false true))
+  named_part x BracketAfter d = ElementOrArray true (λ i. U i d) x
 
   abbrev named_reader : NameTree → NamedHead → ℕ → Gets Enclosed
-  named_reader x h d = named_behind (suc d) (λ i. u i d) x h
+  named_reader x h d = named_after (suc d) (λ i. u i d) x h
 
   abbrev named_first : List ℕ
   named_first = 18 ∷ unary_first
 
   named_open : (x : NameTree) (h : NamedHead) → named_opens h ≡ true → PartOf n (named_part x h) named_first named_set true (named_reader x h)
-  unfolding named_behind
-  named_open x BangBehind e = absurd cc
-  named_open x BracketBehind e = may_be_empty n (named_part x BracketBehind) named_first named_set false (named_reader x BracketBehind) (element_or_array_to x)
+  unfolding named_after
+  named_open x BangAfter e = absurd cc
+  named_open x BracketAfter e = may_be_empty n (named_part x BracketAfter) named_first named_set false (named_reader x BracketAfter) (element_or_array_to x)
 
   named_leaf : (x : NameTree) (h : NamedHead) → named_opens h ≡ false → PartOf (suc n) (named_part x h) named_first named_set true (named_reader x h)
-  unfolding named_behind
-  named_leaf x BangBehind e = larger (suc n) (named_part x BangBehind) [] [] named_first named_set true (named_reader x BangBehind) refl refl (done (suc n) (AType (type_of (head_of x) false true)))
-  named_leaf x BracketBehind e = absurd cc
+  unfolding named_after
+  named_leaf x BangAfter e = larger (suc n) (named_part x BangAfter) [] [] named_first named_set true (named_reader x BangAfter) refl refl (done (suc n) (AType (type_of (head_of x) false true)))
+  named_leaf x BracketAfter e = absurd cc
 
-  named_agree : (x : NameTree) (d : ℕ) (h : NamedHead) (t : Piece) (ts : List Piece) → pick (named_opens h) d (named_reader x h) t ts ≡ opened (named_opens h) d (named_behind d (w d) x h) t ts
-  unfolding named_behind
-  named_agree x zero BangBehind t ts = refl
-  named_agree x (suc d) BangBehind t ts = refl
-  named_agree x zero BracketBehind t ts = refl
-  named_agree x (suc d) BracketBehind t ts = refl
+  named_agree : (x : NameTree) (d : ℕ) (h : NamedHead) (t : Piece) (ts : List Piece) → pick (named_opens h) d (named_reader x h) t ts ≡ opened (named_opens h) d (named_after d (w d) x h) t ts
+  unfolding named_after
+  named_agree x zero BangAfter t ts = refl
+  named_agree x (suc d) BangAfter t ts = refl
+  named_agree x zero BracketAfter t ts = refl
+  named_agree x (suc d) BracketAfter t ts = refl
 
-  named_there : (x : NameTree) (d : ℕ) (h : NamedHead) (ts : List Piece) (v : Enclosed) → Pick (named_opens h) (named_part x h) d ts v → NamedBehind (may_open d) (V d) x h ts v
-  named_there x zero BangBehind ts v q = q
-  named_there x (suc d) BangBehind ts v q = q
-  named_there x zero BracketBehind ts v q = q
-  named_there x (suc d) BracketBehind ts v q = q
+  named_there : (x : NameTree) (d : ℕ) (h : NamedHead) (ts : List Piece) (v : Enclosed) → Pick (named_opens h) (named_part x h) d ts v → NamedAfter (may_open d) (V d) x h ts v
+  named_there x zero BangAfter ts v q = q
+  named_there x (suc d) BangAfter ts v q = q
+  named_there x zero BracketAfter ts v q = q
+  named_there x (suc d) BracketAfter ts v q = q
 
-  named_back : (x : NameTree) (d : ℕ) (h : NamedHead) (ts : List Piece) (v : Enclosed) → NamedBehind (may_open d) (V d) x h ts v → Pick (named_opens h) (named_part x h) d ts v
-  named_back x zero BangBehind ts v q = q
-  named_back x (suc d) BangBehind ts v q = q
-  named_back x zero BracketBehind ts v q = q
-  named_back x (suc d) BracketBehind ts v q = q
+  named_back : (x : NameTree) (d : ℕ) (h : NamedHead) (ts : List Piece) (v : Enclosed) → NamedAfter (may_open d) (V d) x h ts v → Pick (named_opens h) (named_part x h) d ts v
+  named_back x zero BangAfter ts v q = q
+  named_back x (suc d) BangAfter ts v q = q
+  named_back x zero BracketAfter ts v q = q
+  named_back x (suc d) BracketAfter ts v q = q
 
   abbrev Headed : NameTree → ℕ → List Piece → Enclosed → Type 0
-  Headed x d = Take named_head (NamedBehind (may_open d) (V d) x)
+  Headed x d = Take named_head (NamedAfter (may_open d) (V d) x)
 
   abbrev headed : NameTree → ℕ → Gets Enclosed
-  headed x d = take (tokened named_head) (λ y. opened (named_opens y.0) d (named_behind d (w d) x y.0) y.1)
+  headed x d = take (tokened named_head) (λ y. opened (named_opens y.0) d (named_after d (w d) x y.0) y.1)
 
   headed_to : (x : NameTree) → PartOf (suc n) (Headed x) (31 ∷ 17 ∷ []) named_set false (headed x)
   headed_to x = to_same (suc n) (λ d. Take named_head (λ h. Pick (named_opens h) (named_part x h) d)) (Headed x) (In (31 ∷ 17 ∷ [])) (In named_set) false (headed x)
-      (λ d ts v q. take_in named_head (λ h. Pick (named_opens h) (named_part x h) d) (NamedBehind (may_open d) (V d) x) (named_there x d) ts v q)
-      (λ d ts v q. take_in named_head (NamedBehind (may_open d) (V d) x) (λ h. Pick (named_opens h) (named_part x h) d) (named_back x d) ts v q)
+      (λ d ts v q. take_in named_head (λ h. Pick (named_opens h) (named_part x h) d) (NamedAfter (may_open d) (V d) x) (named_there x d) ts v q)
+      (λ d ts v q. take_in named_head (NamedAfter (may_open d) (V d) x) (λ h. Pick (named_opens h) (named_part x h) d) (named_back x d) ts v q)
       (listed (suc n) (λ d. Take named_head (λ h. Pick (named_opens h) (named_part x h) d)) (λ t. known (named_head t)) (In named_set) (31 ∷ 17 ∷ []) named_set false (headed x) named_in (λ t h. h)
-      (to_take_open n named_head named_opens (named_part x) (named_reader x) (In named_first) (In named_set) true (named_open x) (named_leaf x) (λ d y. opened (named_opens y.0) d (named_behind d (w d) x y.0) y.1) (named_agree x) (record { more = of (ASymbol symbol.Bang) ∷ []; value = AType (type_of (head_of x) false true); reads = (refl, refl) })))
+      (to_take_open n named_head named_opens (named_part x) (named_reader x) (In named_first) (In named_set) true (named_open x) (named_leaf x) (λ d y. opened (named_opens y.0) d (named_after d (w d) x y.0) y.1) (named_agree x) (record { more = of (ASymbol symbol.Bang) ∷ []; value = AType (type_of (head_of x) false true); reads = (refl, refl) })))
 
   headed_alive : (x : NameTree) (t : Piece) → is named_head t ≡ true → Alive (Headed x) t
   headed_alive x t h = at (named_head t) refl h
@@ -120,7 +120,7 @@ module _ (n : ℕ) (U : (i : Part) → ℕ → List Piece → Value i → Type 0
       at None e k = absurd cc
       at (Some b) e k =
           let a = head_alive n named_head named_opens (named_part x) (named_reader x) (In named_first) (In named_set) true (named_open x) (named_leaf x) t b e in
-          (a.0, record { more = a.1.more; value = a.1.value; reads = take_in named_head (λ h. Pick (named_opens h) (named_part x h) a.0) (NamedBehind (may_open a.0) (V a.0) x) (named_there x a.0) ((t ∷ []) ++ a.1.more) a.1.value a.1.reads })
+          (a.0, record { more = a.1.more; value = a.1.value; reads = take_in named_head (λ h. Pick (named_opens h) (named_part x h) a.0) (NamedAfter (may_open a.0) (V a.0) x) (named_there x a.0) ((t ∷ []) ++ a.1.more) a.1.value a.1.reads })
 
   named_rest_to : (x : NameTree) → PartOf (suc n) (λ d. Bind (RestOf (may_open d) (V d) x.place (named x)) (λ e. Done (AnExpr e))) named_set named_set true (λ d. named_rest d (w d) x)
   unfolding named_rest

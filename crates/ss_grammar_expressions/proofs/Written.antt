@@ -1,4 +1,4 @@
--- What stands behind a `(`, told apart by its first tokens, is a cast or an expression in parentheses.
+-- What stands after a `(`, told apart by its first tokens, is a cast or an expression in parentheses.
 use Rattle.std.proofs.Common.{◌≡◌, ℕ, zero, suc, List, [], ◌∷◌, ◌++◌, Option, Some, None, Bool, true, false, refl, sym, ap, subst, ◌∙◌, append_assoc, ◌⊎◌, inl, inr}
 use Rattle.std.proofs.lemmas.List.{append-nil}
 use Rattle.ss_core.specs.declared.names.Place.{Place}
@@ -8,15 +8,15 @@ use Rattle.ss_ast.specs.Tokens.{Kind, AWord, ASymbol, AName, ANumber, AText, AnE
 use Rattle.ss_ast.specs.Expressions.{NameTree, TypeTree, ExprTree, ElementOf}
 use Rattle.ss_grammar.specs.Language.{Done, After, Take, Maybe, Bind, Times, Many}
 use Rattle.ss_grammar_expressions.specs.First.{Nothing, Chosen, Choose, Only, Here}
-use Rattle.ss_grammar_expressions.specs.Heads.{Piece, AToken, LeftOut, place_at, is, the, TypeHead, type_word, type_head, a_name, castable, NamedHead, BangBehind, BracketBehind, named_head, postfix_head}
-use Rattle.ss_grammar_expressions.specs.Grammar.{Part, TheExpression, TheTypeEnd, TheNamed, Parts, NoParts, AtLevel, Enclosed, AType, AnExpr, type_of, head_of, named, joined, Deeper, Brackets, BangEnd, TypeEnd, ParenEnd, IndexEnd, PostfixBehind, Postfixes, CastEnd, CastOnly, AfterParen, BareEnd, Closed, WordParen, NameBehind, NameParen, OtherParen, Paren, UnaryBehind, Chain, ImplicationFrom, ExpressionFrom, WholeExpression, RestOf, ElementOrArray, NamedBehind, Named}
+use Rattle.ss_grammar_expressions.specs.Heads.{Piece, AToken, LeftOut, place_at, is, the, TypeHead, type_word, type_head, a_name, castable, NamedHead, BangAfter, BracketAfter, named_head, postfix_head}
+use Rattle.ss_grammar_expressions.specs.Grammar.{Part, TheExpression, TheTypeEnd, TheNamed, Parts, NoParts, AtLevel, Enclosed, AType, AnExpr, type_of, head_of, named, joined, Deeper, Brackets, BangEnd, TypeEnd, ParenEnd, IndexEnd, PostfixAfter, Postfixes, CastEnd, CastOnly, AfterParen, BareEnd, Closed, WordParen, NameAfter, NameParen, OtherParen, Paren, UnaryAfter, Chain, ImplicationFrom, ExpressionFrom, WholeExpression, RestOf, ElementOrArray, NamedAfter, Named}
 use Rattle.ss_grammar_expressions.specs.Written.{InnerType, Casted}
 
 abbrev name_piece : NameTree → Piece
 name_piece n = AToken (record { kind = AName n.text; place = n.place })
 
 module _ (o : Bool) (V : Parts) where
-  -- ---- nothing behind an expression
+  -- ---- nothing after an expression
 
   no_chain : (k : ℕ) (p : Place) (a : ExprTree) → Chain o V k p a [] a
   no_chain zero p a = (refl, refl)
@@ -25,7 +25,7 @@ module _ (o : Bool) (V : Parts) where
   no_more : (p : Place) (a : ExprTree) → ExpressionFrom o V p a [] a
   no_more p a = record { first = a; front = []; back = []; parts = refl; reads = record { first = a; front = []; back = []; parts = refl; reads = no_chain 6 p a; goes_on = refl }; goes_on = refl }
 
-  -- a name and what goes on behind it
+  -- a name and what goes on after it
   name_then : (n : NameTree) (ts : List Piece) (e : ExprTree) → RestOf o V n.place (named n) ts e → WholeExpression o V (name_piece n ∷ ts) e
   name_then n ts e q = record { first = q.first; front = name_piece n ∷ q.front; back = q.back; parts = ap (λ (y : List Piece). name_piece n ∷ y) q.parts; reads = q.reads; goes_on = q.goes_on }
 
@@ -35,7 +35,7 @@ module _ (o : Bool) (V : Parts) where
   no_type_end : (n : NameTree) → TypeEnd o (head_of n) [] (type_of (head_of n) false false)
   no_type_end n = record { first = false; front = []; back = []; parts = refl; reads = refl; goes_on = record { first = false; front = []; back = []; parts = refl; reads = refl; goes_on = (refl, refl) } }
 
--- ---- behind a name
+-- ---- after a name
 
 abbrev Read : Bool → Parts → NameTree → List Piece → Enclosed → Type 0
 Read o V n ts (AType t) = TypeEnd o (head_of n) ts t
@@ -96,17 +96,17 @@ module _ (o : Bool) (V : Parts) (n : NameTree) where
   bang : (p : Place) (ts : List Piece) (c : Enclosed) → Done (AType (type_of (head_of n) false true)) ts c → Read o V n (symbol_piece p symbol.Bang ∷ ts) c
   bang p ts c q = subst (λ (x : Enclosed). Read o V n (symbol_piece p symbol.Bang ∷ ts) x) (sym q.1) (record { first = false; front = []; back = symbol_piece p symbol.Bang ∷ ts; parts = refl; reads = refl; goes_on = record { first = true; front = symbol_piece p symbol.Bang ∷ ts; back = []; parts = sym (append-nil (symbol_piece p symbol.Bang ∷ ts)); reads = (q.0, refl); goes_on = (refl, refl) } })
 
-  headed_symbol : (p : Place) (s : Symbol) (ts : List Piece) (c : Enclosed) → After (named_head (symbol_piece p s)) (NamedBehind o V n) ts c → Read o V n (symbol_piece p s ∷ ts) c
+  headed_symbol : (p : Place) (s : Symbol) (ts : List Piece) (c : Enclosed) → After (named_head (symbol_piece p s)) (NamedAfter o V n) ts c → Read o V n (symbol_piece p s ∷ ts) c
   headed_symbol p symbol.Bang ts c q = bang p ts c q
   headed_symbol p symbol.OpenBracket ts c q = bracket o p ts c refl q
   headed_symbol p _ ts c q = absurd q
 
-  headed : (ts : List Piece) (c : Enclosed) → Take named_head (NamedBehind o V n) ts c → Read o V n ts c
+  headed : (ts : List Piece) (c : Enclosed) → Take named_head (NamedAfter o V n) ts c → Read o V n ts c
   headed [] c q = absurd q
   headed (LeftOut ∷ ts) c q = absurd q
   headed (AToken t ∷ ts) c q = at t.kind t.place q
     where
-      at : (k : Kind) (p : Place) → After (named_head (AToken (record { kind = k; place = p }))) (NamedBehind o V n) ts c → Read o V n (AToken (record { kind = k; place = p }) ∷ ts) c
+      at : (k : Kind) (p : Place) → After (named_head (AToken (record { kind = k; place = p }))) (NamedAfter o V n) ts c → Read o V n (AToken (record { kind = k; place = p }) ∷ ts) c
       at (ASymbol s) p q = headed_symbol p s ts c q
       at (AWord w) p q = absurd q
       at (AName x) p q = absurd q
@@ -115,7 +115,7 @@ module _ (o : Bool) (V : Parts) (n : NameTree) where
       at AnEnd p q = absurd q
 
   of_named : (ts : List Piece) (c : Enclosed) → Named o V n ts c → Read o V n ts c
-  of_named ts c q = of_choice (is named_head) (Take named_head (NamedBehind o V n)) (Bind (RestOf o V n.place (named n)) (λ e. Done (AnExpr e))) ts c (headed ts c) (rest o V n ts c) q
+  of_named ts c q = of_choice (is named_head) (Take named_head (NamedAfter o V n)) (Bind (RestOf o V n.place (named n)) (λ e. Done (AnExpr e))) ts c (headed ts c) (rest o V n ts c) q
 
 -- ---- at each level
 
@@ -144,7 +144,7 @@ module _ (d : ℕ) (p : Place) where
   abbrev Either : List Piece → ExprTree → Type 0
   Either ts e = Casted V p ts e ⊎ OtherParen V p ts e
 
-  -- behind the name and the `)`
+  -- after the name and the `)`
   bare : (n : NameTree) (t : Piece) (ts : List Piece) (e : ExprTree) (z : Place) → the symbol.Close t ≡ Some z → BareEnd V p n ts e → Either (name_piece n ∷ t ∷ ts) e
   bare n t ts e z h q = at ts q
     where
@@ -162,7 +162,7 @@ module _ (d : ℕ) (p : Place) where
           pick true k r = casted (u ∷ us) (subst (λ (b : Bool). Chosen b (CastEnd V p (type_of (head_of n) false false)) Nothing (u ∷ us) e) (sym k) r)
           pick false k r = parened (u ∷ us) r
 
-  after_name : (n : NameTree) (ts : List Piece) (e : ExprTree) → NameBehind V p n ts e → Either (name_piece n ∷ ts) e
+  after_name : (n : NameTree) (ts : List Piece) (e : ExprTree) → NameAfter V p n ts e → Either (name_piece n ∷ ts) e
   after_name n ts e q = of_choice (is (the symbol.Close)) (Take (the symbol.Close) (λ _. BareEnd V p n)) (Bind (V (TheNamed n)) (λ c. Take (the symbol.Close) (λ _. Closed V p c))) ts e (closed ts) (λ r. enclosed r.first r.front r.back r.parts (inner d n r.front r.first r.reads) r.goes_on) q
     where
       closed : (ts : List Piece) → Take (the symbol.Close) (λ _. BareEnd V p n) ts e → Either (name_piece n ∷ ts) e
@@ -198,11 +198,11 @@ module _ (d : ℕ) (p : Place) where
       at None h r = absurd r
       at (Some w) h r = inl (record { first = r.first; front = AToken t ∷ r.front; back = r.back; parts = ap (λ (y : List Piece). AToken t ∷ y) r.parts; reads = subst (λ (y : Option TypeHead). After y (λ w. V (TheTypeEnd w)) r.front r.first) (sym (h w refl)) r.reads; goes_on = r.goes_on })
 
-  name_first : (t : Piece) (ts : List Piece) (e : ExprTree) → After (a_name t) (NameBehind V p) ts e → Either (t ∷ ts) e
+  name_first : (t : Piece) (ts : List Piece) (e : ExprTree) → After (a_name t) (NameAfter V p) ts e → Either (t ∷ ts) e
   name_first LeftOut ts e q = absurd q
   name_first (AToken t) ts e q = at t.kind t.place q
     where
-      at : (k : Kind) (z : Place) → After (a_name (AToken (record { kind = k; place = z }))) (NameBehind V p) ts e → Either (AToken (record { kind = k; place = z }) ∷ ts) e
+      at : (k : Kind) (z : Place) → After (a_name (AToken (record { kind = k; place = z }))) (NameAfter V p) ts e → Either (AToken (record { kind = k; place = z }) ∷ ts) e
       at (AName x) z r = after_name (record { text = x; place = z }) ts e r
       at (AWord x) z r = absurd r
       at (ASymbol x) z r = absurd r

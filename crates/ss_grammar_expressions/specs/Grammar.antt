@@ -12,7 +12,7 @@ use Rattle.ss_core.specs.declared.expr.Quantifier.{Quantifier}
 use Rattle.ss_ast.specs.Expressions.{NameTree, ClassType, TypeTree, ExprTree, IffOf, ImpliesOf, BinaryOf, IsOf, AsOf, NegateOf, NotOf, CastOf, MemberOf, ElementOf, CallOf, BaseOf, NumberOf, NameOf, ParenOf, OldOf, NewOf, NewArrayOf, QuantifiedOf, Behind, arguments}
 use Rattle.ss_grammar.specs.Language.{Done, Take, Maybe, Bind, Many}
 use Rattle.ss_grammar_expressions.specs.First.{Nothing, Choose, Only, Here}
-use Rattle.ss_grammar_expressions.specs.Heads.{Piece, place_at, or_left_out, is, the, the_word, a_name, the_least, TypeHead, type_word, type_head, LinkHead, Operation, IsHead, AsHead, link_head, PostfixHead, DotHead, IndexHead, CallHead, postfix_head, Head, NegateHead, NotHead, OpenHead, Leaf, OldHead, NewHead, QuantifierHead, unary_head, castable, NamedHead, BangBehind, BracketBehind, named_head, NewKind, ArrayKind, ObjectKind, new_head}
+use Rattle.ss_grammar_expressions.specs.Heads.{Piece, place_at, or_left_out, is, the, the_word, a_name, the_least, TypeHead, type_word, type_head, LinkHead, Operation, IsHead, AsHead, link_head, PostfixHead, DotHead, IndexHead, CallHead, postfix_head, Head, NegateHead, NotHead, OpenHead, Leaf, OldHead, NewHead, QuantifierHead, unary_head, castable, NamedHead, BangAfter, BracketAfter, named_head, NewKind, ArrayKind, ObjectKind, new_head}
 
 -- ---- parts of expressions that stand one level deeper, and what each is read as
 
@@ -21,9 +21,9 @@ pub data Part : Type 0 where
   -- the right side of a `==>`
   TheImplication : Part
   TheExpression : Part
-  -- what is behind `(` and a type's word
+  -- what is after `(` and a type's word
   TheTypeEnd : TypeHead → Part
-  -- what is behind `(` and a name
+  -- what is after `(` and a name
   TheNamed : NameTree → Part
   -- the bounds of a quantifier
   TheRange : Part
@@ -49,13 +49,13 @@ abbrev pub Deeper : {A : Type 0} → Bool → (List Piece → A → Type 0) → 
 Deeper false L = Nothing
 Deeper true L = L
 
--- behind a token that must come and opens a level, or a part left out, which is read as a
-abbrev pub HeldBehind : {A B : Type 0} → Bool → (B → List Piece → A → Type 0) → A → Option B → List Piece → A → Type 0
-HeldBehind o K a None = Done a
-HeldBehind o K a (Some b) = Deeper o (K b)
+-- after a token that must come and opens a level, or a part left out, which is read as a
+abbrev pub HeldAfter : {A B : Type 0} → Bool → (B → List Piece → A → Type 0) → A → Option B → List Piece → A → Type 0
+HeldAfter o K a None = Done a
+HeldAfter o K a (Some b) = Deeper o (K b)
 
 abbrev pub Held : {A B : Type 0} → Bool → (Piece → Option B) → (B → List Piece → A → Type 0) → A → List Piece → A → Type 0
-Held o f K a = Take (or_left_out f) (HeldBehind o K a)
+Held o f K a = Take (or_left_out f) (HeldAfter o K a)
 
 -- ---- types and arguments
 
@@ -70,11 +70,11 @@ BangEnd = Maybe (the symbol.Bang) (λ _. Done true) false
 abbrev pub type_of : TypeHead → Bool → Bool → TypeTree
 type_of t b s = record { place = t.place; name = t.name; is_array = b; non_null = s }
 
--- what stands behind the word or name that a type begins with: [ "[" "]" ] [ "!" ]
+-- what stands after the word or name that a type begins with: [ "[" "]" ] [ "!" ]
 abbrev pub TypeEnd : Bool → TypeHead → List Piece → TypeTree → Type 0
 TypeEnd o t = Bind (Brackets o) (λ b. Bind BangEnd (λ s. Done (type_of t b s)))
 
--- a type behind `is` and `as`, where a `!` isn't read
+-- a type after `is` and `as`, where a `!` isn't read
 abbrev pub PlainType : Bool → List Piece → TypeTree → Type 0
 PlainType o = Take type_head (λ t. Bind (Brackets o) (λ b. Done (type_of t b false)))
 
@@ -109,23 +109,23 @@ named n = NameOf n.place n.text
 abbrev pub no_place : Place
 no_place = record { line = 1; column = 1 }
 
--- what is read behind a part that begins at p is joined to it
+-- what is read after a part that begins at p is joined to it
 abbrev pub joined : {H : Type 0} → Place → ExprTree → H → Behind → ExprTree
 joined p a _ b = b p a
 
 module _ (o : Bool) (V : Parts) where
   -- ---- paths: Post = Prim { "." Name | "[" Expr "]" | "(" [ Args ] ")" }
 
-  abbrev pub PostfixBehind : PostfixHead → List Piece → Behind → Type 0
-  PostfixBehind DotHead = Bind AnyName (λ n. Done (λ p a. MemberOf p a n))
-  PostfixBehind IndexHead = Deeper o (Bind (IndexEnd (V TheExpression)) (λ e. Done (λ p a. ElementOf p a e)))
-  PostfixBehind CallHead = Deeper o (Bind (ArgsEnd (V TheExpression)) (λ es. Done (λ p a. CallOf p a (arguments es))))
+  abbrev pub PostfixAfter : PostfixHead → List Piece → Behind → Type 0
+  PostfixAfter DotHead = Bind AnyName (λ n. Done (λ p a. MemberOf p a n))
+  PostfixAfter IndexHead = Deeper o (Bind (IndexEnd (V TheExpression)) (λ e. Done (λ p a. ElementOf p a e)))
+  PostfixAfter CallHead = Deeper o (Bind (ArgsEnd (V TheExpression)) (λ es. Done (λ p a. CallOf p a (arguments es))))
 
-  -- what stands behind the beginning a of a path
+  -- what stands after the beginning a of a path
   abbrev pub Postfixes : Place → ExprTree → List Piece → ExprTree → Type 0
-  Postfixes p a = Many postfix_head PostfixBehind (joined p) a
+  Postfixes p a = Many postfix_head PostfixAfter (joined p) a
 
-  -- what is behind `new`: Name "(" [ Args ] ")" | ElemType "[" Expr "]"
+  -- what is after `new`: Name "(" [ Args ] ")" | ElemType "[" Expr "]"
   abbrev pub NewEnd : Place → TypeHead → NewKind → List Piece → ExprTree → Type 0
   NewEnd p t ArrayKind = Bind (IndexEnd (V TheExpression)) (λ e. Done (NewArrayOf p t.place t.name e))
   NewEnd p t (ObjectKind n) = Bind (ArgsEnd (V TheExpression)) (λ es. Done (NewOf p (record { text = n; place = t.place }) (arguments es)))
@@ -133,7 +133,7 @@ module _ (o : Bool) (V : Parts) where
   abbrev pub New : Place → List Piece → ExprTree → Type 0
   New p = Take type_head (λ t. Held o (new_head t.name) (NewEnd p t) (BaseOf p))
 
-  -- what is behind `old`: "(" Expr ")"
+  -- what is after `old`: "(" Expr ")"
   abbrev pub Old : Place → List Piece → ExprTree → Type 0
   Old p = Held o (the symbol.Open) (λ _. Bind (ParenEnd (V TheExpression)) (λ e. Done (OldOf p e))) (BaseOf p)
 
@@ -152,7 +152,7 @@ module _ (o : Bool) (V : Parts) where
   abbrev pub Bound : List Piece → NameTree → Type 0
   Bound = Take (the_word word.Int) (λ _. Bind AnyName (λ n. Take (the_word word.In) (λ _. Done n)))
 
-  -- what is behind `forall` and `exists`: "{" "int" Name "in" "(" Expr ":" Expr ")" ";" Expr "}"
+  -- what is after `forall` and `exists`: "{" "int" Name "in" "(" Expr ":" Expr ")" ";" Expr "}"
   abbrev pub Quantified : Place → Quantifier → List Piece → ExprTree → Type 0
   Quantified p q = Held o (the symbol.OpenBrace) (λ _. Bind Bound (λ n. Bind (V TheRange) (λ r. Bind Body (λ e. Done (QuantifiedOf p q n r.0 r.1 e))))) (BaseOf p)
 
@@ -169,7 +169,7 @@ module _ (V : Parts) where
   abbrev pub AfterParen : Place → ExprTree → List Piece → ExprTree → Type 0
   AfterParen p e = Postfixes true V p (ParenOf p e)
 
-  -- behind `( Name )`, which is a cast where the next token may begin the operand of one
+  -- after `( Name )`, which is a cast where the next token may begin the operand of one
   abbrev pub BareEnd : Place → NameTree → List Piece → ExprTree → Type 0
   BareEnd p n = Choose castable (CastEnd p (type_of (head_of n) false false)) (AfterParen p (named n))
 
@@ -177,16 +177,16 @@ module _ (V : Parts) where
   Closed p (AType t) = CastOnly p t
   Closed p (AnExpr e) = AfterParen p e
 
-  -- behind `(`: a type's word
+  -- after `(`: a type's word
   abbrev pub WordParen : Place → List Piece → ExprTree → Type 0
   WordParen p = Take type_word (λ w. Bind (V (TheTypeEnd w)) (λ t. Take (the symbol.Close) (λ _. CastOnly p t)))
 
   -- a name
-  abbrev pub NameBehind : Place → NameTree → List Piece → ExprTree → Type 0
-  NameBehind p n = Choose (is (the symbol.Close)) (Take (the symbol.Close) (λ _. BareEnd p n)) (Bind (V (TheNamed n)) (λ c. Take (the symbol.Close) (λ _. Closed p c)))
+  abbrev pub NameAfter : Place → NameTree → List Piece → ExprTree → Type 0
+  NameAfter p n = Choose (is (the symbol.Close)) (Take (the symbol.Close) (λ _. BareEnd p n)) (Bind (V (TheNamed n)) (λ c. Take (the symbol.Close) (λ _. Closed p c)))
 
   abbrev pub NameParen : Place → List Piece → ExprTree → Type 0
-  NameParen p = Take a_name (NameBehind p)
+  NameParen p = Take a_name (NameAfter p)
 
   -- anything else
   abbrev pub OtherParen : Place → List Piece → ExprTree → Type 0
@@ -201,29 +201,29 @@ module _ (V : Parts) where
   Negated p = Choose (is the_least) (Take the_least (λ _. Postfixes true V p (NumberOf p (negsuc 2147483647)))) (Bind (V TheUnary) (λ e. Done (NegateOf p e)))
 
 module _ (o : Bool) (V : Parts) where
-  -- what stands behind the first token of a unary expression
-  abbrev pub UnaryBehind : Head → List Piece → ExprTree → Type 0
-  UnaryBehind (NegateHead p) = Deeper o (Negated V p)
-  UnaryBehind (NotHead p) = Deeper o (Bind (V TheUnary) (λ e. Done (NotOf p e)))
-  UnaryBehind (OpenHead p) = Deeper o (Paren V p)
-  UnaryBehind (Leaf p v) = Postfixes o V p v
-  UnaryBehind (OldHead p) = Bind (Old o V p) (Postfixes o V p)
-  UnaryBehind (NewHead p) = Bind (New o V p) (Postfixes o V p)
-  UnaryBehind (QuantifierHead p q) = Bind (Quantified o V p q) (Postfixes o V p)
+  -- what stands after the first token of a unary expression
+  abbrev pub UnaryAfter : Head → List Piece → ExprTree → Type 0
+  UnaryAfter (NegateHead p) = Deeper o (Negated V p)
+  UnaryAfter (NotHead p) = Deeper o (Bind (V TheUnary) (λ e. Done (NotOf p e)))
+  UnaryAfter (OpenHead p) = Deeper o (Paren V p)
+  UnaryAfter (Leaf p v) = Postfixes o V p v
+  UnaryAfter (OldHead p) = Bind (Old o V p) (Postfixes o V p)
+  UnaryAfter (NewHead p) = Bind (New o V p) (Postfixes o V p)
+  UnaryAfter (QuantifierHead p q) = Bind (Quantified o V p q) (Postfixes o V p)
 
   -- Unary = ( "-" | "!" ) Unary | "(" Type ")" Unary | Post
   abbrev pub Unary : List Piece → ExprTree → Type 0
-  Unary = Take unary_head UnaryBehind
+  Unary = Take unary_head UnaryAfter
 
   -- ---- operators
 
-  -- one operator and what is behind it, where E is an operand
-  abbrev pub LinkBehind : (List Piece → ExprTree → Type 0) → LinkHead → List Piece → Behind → Type 0
-  LinkBehind E (Operation op) = Bind E (λ e. Done (λ p a. BinaryOf p op a e))
-  LinkBehind E IsHead = Bind (PlainType o) (λ t. Done (λ p a. IsOf p a t))
-  LinkBehind E AsHead = Bind (PlainType o) (λ t. Done (λ p a. AsOf p a t))
+  -- one operator and what is after it, where E is an operand
+  abbrev pub LinkAfter : (List Piece → ExprTree → Type 0) → LinkHead → List Piece → Behind → Type 0
+  LinkAfter E (Operation op) = Bind E (λ e. Done (λ p a. BinaryOf p op a e))
+  LinkAfter E IsHead = Bind (PlainType o) (λ t. Done (λ p a. IsOf p a t))
+  LinkAfter E AsHead = Bind (PlainType o) (λ t. Done (λ p a. AsOf p a t))
 
-  -- what stands behind the first unary expression, a, of operations up to rank k:
+  -- what stands after the first unary expression, a, of operations up to rank k:
   -- Mul = Unary { ( "*" | "/" | "%" ) Unary }              of rank 1
   -- Add = Mul { ( "+" | "-" ) Mul }                        of rank 2
   -- Rel = Add { ( "<" | "<=" | ">" | ">=" ) Add | ( "is" | "as" ) Type }    of rank 3
@@ -232,7 +232,7 @@ module _ (o : Bool) (V : Parts) where
   -- Or = And { "||" And }                                  of rank 6
   abbrev pub Chain : ℕ → Place → ExprTree → List Piece → ExprTree → Type 0
   Chain zero p a = Done a
-  Chain (suc k) p a = Bind (Chain k p a) (Many (link_head (suc k)) (LinkBehind (Here place_at (λ q. Bind Unary (Chain k q)))) (joined p))
+  Chain (suc k) p a = Bind (Chain k p a) (Many (link_head (suc k)) (LinkAfter (Here place_at (λ q. Bind Unary (Chain k q)))) (joined p))
 
   -- Imp = Or [ "==>" Imp ], from its first unary expression on
   abbrev pub ImplicationFrom : Place → ExprTree → List Piece → ExprTree → Type 0
@@ -248,23 +248,23 @@ module _ (o : Bool) (V : Parts) where
   abbrev pub WholeExpression : List Piece → ExprTree → Type 0
   WholeExpression = Here place_at (λ p. Bind Unary (ExpressionFrom p))
 
-  -- ---- behind `(` and a name: the rest of a type or of an expression
+  -- ---- after `(` and a name: the rest of a type or of an expression
 
   abbrev pub RestOf : Place → ExprTree → List Piece → ExprTree → Type 0
   RestOf p a = Bind (Postfixes o V p a) (ExpressionFrom p)
 
-  -- behind `(` Name `[`
+  -- after `(` Name `[`
   abbrev pub ElementOrArray : NameTree → List Piece → Enclosed → Type 0
   ElementOrArray n = Choose (is (the symbol.CloseBracket))
       (Take (the symbol.CloseBracket) (λ _. Bind BangEnd (λ s. Done (AType (type_of (head_of n) true s)))))
       (Bind (IndexEnd (V TheExpression)) (λ i. Bind (RestOf n.place (ElementOf n.place (named n) i)) (λ e. Done (AnExpr e))))
 
-  abbrev pub NamedBehind : NameTree → NamedHead → List Piece → Enclosed → Type 0
-  NamedBehind n BangBehind = Done (AType (type_of (head_of n) false true))
-  NamedBehind n BracketBehind = Deeper o (ElementOrArray n)
+  abbrev pub NamedAfter : NameTree → NamedHead → List Piece → Enclosed → Type 0
+  NamedAfter n BangAfter = Done (AType (type_of (head_of n) false true))
+  NamedAfter n BracketAfter = Deeper o (ElementOrArray n)
 
   abbrev pub Named : NameTree → List Piece → Enclosed → Type 0
-  Named n = Choose (is named_head) (Take named_head (NamedBehind n)) (Bind (RestOf n.place (named n)) (λ e. Done (AnExpr e)))
+  Named n = Choose (is named_head) (Take named_head (NamedAfter n)) (Bind (RestOf n.place (named n)) (λ e. Done (AnExpr e)))
 
   -- ---- all parts
 

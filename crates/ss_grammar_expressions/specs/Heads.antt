@@ -108,7 +108,7 @@ abbrev pub least_is : Place → Kind → Option Place
 least_is p (ANumber n) = if_so (n == 2147483648) p
 least_is p _ = None
 
--- the number that stands only behind a `-`
+-- the number that stands only after a `-`
 abbrev pub the_least : Piece → Option Place
 the_least (AToken t) = least_is t.place t.kind
 the_least LeftOut = None
@@ -192,7 +192,7 @@ abbrev pub link_head : ℕ → Piece → Option LinkHead
 link_head k (AToken t) = of_rank k (link_of t.kind)
 link_head k LeftOut = None
 
--- ---- what stands behind a part of a path
+-- ---- what stands after a part of a path
 
 pub data PostfixHead : Type 0 where
   DotHead : PostfixHead
@@ -303,15 +303,15 @@ abbrev pub castable : Piece → Bool
 castable (AToken t) = castable_kind t.kind
 castable LeftOut = false
 
--- ---- behind `(` and a name
+-- ---- after `(` and a name
 
 pub data NamedHead : Type 0 where
-  BangBehind : NamedHead
-  BracketBehind : NamedHead
+  BangAfter : NamedHead
+  BracketAfter : NamedHead
 
 abbrev pub named_symbol : Symbol → Option NamedHead
-named_symbol symbol.Bang = Some BangBehind
-named_symbol symbol.OpenBracket = Some BracketBehind
+named_symbol symbol.Bang = Some BangAfter
+named_symbol symbol.OpenBracket = Some BracketAfter
 named_symbol _ = None
 
 abbrev pub named_of : Kind → Option NamedHead
@@ -324,10 +324,10 @@ named_head (AToken t) = named_of t.kind
 named_head LeftOut = None
 
 abbrev pub named_opens : NamedHead → Bool
-named_opens BangBehind = false
-named_opens BracketBehind = true
+named_opens BangAfter = false
+named_opens BracketAfter = true
 
--- ---- behind `new` and a type
+-- ---- after `new` and a type
 
 pub data NewKind : Type 0 where
   ArrayKind : NewKind
@@ -342,7 +342,7 @@ abbrev pub new_of : TypeNameTree → Kind → Option NewKind
 new_of n (ASymbol s) = new_symbol n s
 new_of n _ = None
 
--- "[", and behind a class's name "(" too
+-- "[", and after a class's name "(" too
 abbrev pub new_head : TypeNameTree → Piece → Option NewKind
 new_head n (AToken t) = new_of n t.kind
 new_head n LeftOut = None

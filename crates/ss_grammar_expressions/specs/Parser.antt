@@ -9,7 +9,7 @@ use Rattle.ss_grammar.specs.declared.fault.Fault.{Fault}
 use Rattle.ss_grammar.specs.declared.fault.Fault.TheVariants.{Expected, TooDeep}
 use Rattle.ss_grammar.specs.Reading.{◌>>=◌, take, maybe, times}
 use Rattle.ss_grammar_expressions.specs.First.{choose, only, here, tokened}
-use Rattle.ss_grammar_expressions.specs.Heads.{Piece, place_at, or_left_out, is, the, the_word, a_name, the_least, TypeHead, type_word, type_head, LinkHead, Operation, IsHead, AsHead, link_head, PostfixHead, DotHead, IndexHead, CallHead, postfix_head, postfix_opens, Head, NegateHead, NotHead, OpenHead, Leaf, OldHead, NewHead, QuantifierHead, unary_head, head_opens, castable, NamedHead, BangBehind, BracketBehind, named_head, named_opens, NewKind, ArrayKind, ObjectKind, new_head}
+use Rattle.ss_grammar_expressions.specs.Heads.{Piece, place_at, or_left_out, is, the, the_word, a_name, the_least, TypeHead, type_word, type_head, LinkHead, Operation, IsHead, AsHead, link_head, PostfixHead, DotHead, IndexHead, CallHead, postfix_head, postfix_opens, Head, NegateHead, NotHead, OpenHead, Leaf, OldHead, NewHead, QuantifierHead, unary_head, head_opens, castable, NamedHead, BangAfter, BracketAfter, named_head, named_opens, NewKind, ArrayKind, ObjectKind, new_head}
 use Rattle.ss_grammar_expressions.specs.Grammar.{Part, TheUnary, TheImplication, TheExpression, TheTypeEnd, TheNamed, TheRange, Value, Enclosed, AType, AnExpr, type_of, join_argument, head_of, named, no_place}
 
 abbrev pub Gets : Type 0 → Type 0
@@ -21,13 +21,13 @@ Inner = (i : Part) → Gets (Value i)
 abbrev pub give : {A : Type 0} → A → Gets A
 give a ts = Ok (a, ts)
 
--- behind the token t, which may open a level
+-- after the token t, which may open a level
 abbrev pub opened : {A : Type 0} → Bool → ℕ → Gets A → Piece → Gets A
 opened false d k t ts = k ts
 opened true zero k t ts = Err (TooDeep, t ∷ ts)
 opened true (suc d) k t ts = k ts
 
--- the same behind a token that must come, or a part left out, which is read as a
+-- the same after a token that must come, or a part left out, which is read as a
 abbrev pub held : {A B : Type 0} → ℕ → (B → Gets A) → A → Option B × Piece → Gets A
 held d k a (None, t) ts = Ok (a, ts)
 held d k a (Some b, t) ts = opened true d (k b) t ts
@@ -70,13 +70,13 @@ paren_end e ts = e ts >>= λ x. take (the symbol.Close) (λ _. give x.0) x.1
 module _ (d : ℕ) (w : Inner) where
   -- ---- paths
 
-  unfoldable pub postfix_behind : PostfixHead → Gets Behind
-  postfix_behind DotHead ts = name_at ts >>= λ n. Ok ((λ p a. MemberOf p a n.0), n.1)
-  postfix_behind IndexHead ts = index_end (w TheExpression) ts >>= λ e. Ok ((λ p a. ElementOf p a e.0), e.1)
-  postfix_behind CallHead ts = args_end (w TheExpression) ts >>= λ es. Ok ((λ p a. CallOf p a (arguments es.0)), es.1)
+  unfoldable pub postfix_after : PostfixHead → Gets Behind
+  postfix_after DotHead ts = name_at ts >>= λ n. Ok ((λ p a. MemberOf p a n.0), n.1)
+  postfix_after IndexHead ts = index_end (w TheExpression) ts >>= λ e. Ok ((λ p a. ElementOf p a e.0), e.1)
+  postfix_after CallHead ts = args_end (w TheExpression) ts >>= λ es. Ok ((λ p a. CallOf p a (arguments es.0)), es.1)
 
   abbrev pub postfix : PostfixHead × Piece → Gets Behind
-  postfix x = opened (postfix_opens x.0) d (postfix_behind x.0) x.1
+  postfix x = opened (postfix_opens x.0) d (postfix_after x.0) x.1
 
   abbrev pub joins : {H : Type 0} → Place → ExprTree → H → Behind → ExprTree
   joins p a _ b = b p a
@@ -84,21 +84,21 @@ module _ (d : ℕ) (w : Inner) where
   unfoldable pub postfixes : Place → ExprTree → Gets ExprTree
   postfixes p a ts = times (tokened postfix_head) postfix (joins p) (length ts) a ts
 
-  unfoldable pub new_behind : Place → TypeHead → NewKind → Gets ExprTree
-  new_behind p t ArrayKind ts = index_end (w TheExpression) ts >>= λ e. Ok (NewArrayOf p t.place t.name e.0, e.1)
-  new_behind p t (ObjectKind n) ts = args_end (w TheExpression) ts >>= λ es. Ok (NewOf p (record { text = n; place = t.place }) (arguments es.0), es.1)
+  unfoldable pub new_after : Place → TypeHead → NewKind → Gets ExprTree
+  new_after p t ArrayKind ts = index_end (w TheExpression) ts >>= λ e. Ok (NewArrayOf p t.place t.name e.0, e.1)
+  new_after p t (ObjectKind n) ts = args_end (w TheExpression) ts >>= λ es. Ok (NewOf p (record { text = n; place = t.place }) (arguments es.0), es.1)
 
   unfoldable pub new_end : Place → TypeHead → Gets ExprTree
-  new_end p t = take (tokened (or_left_out (new_head t.name))) (held d (new_behind p t) (BaseOf p))
+  new_end p t = take (tokened (or_left_out (new_head t.name))) (held d (new_after p t) (BaseOf p))
 
   unfoldable pub new : Place → Gets ExprTree
   new p = take type_head (new_end p)
 
-  unfoldable pub old_behind : Place → Gets ExprTree
-  old_behind p ts = paren_end (w TheExpression) ts >>= λ e. Ok (OldOf p e.0, e.1)
+  unfoldable pub old_after : Place → Gets ExprTree
+  old_after p ts = paren_end (w TheExpression) ts >>= λ e. Ok (OldOf p e.0, e.1)
 
   unfoldable pub old : Place → Gets ExprTree
-  old p = take (tokened (or_left_out (the symbol.Open))) (held d (λ _. old_behind p) (BaseOf p))
+  old p = take (tokened (or_left_out (the symbol.Open))) (held d (λ _. old_after p) (BaseOf p))
 
   unfoldable pub range_high : ExprTree → Gets (ExprTree × ExprTree)
   range_high low = take (the symbol.Colon) (λ _ ts. paren_end (w TheExpression) ts >>= λ high. Ok ((low, high.0), high.1))
@@ -121,11 +121,11 @@ module _ (d : ℕ) (w : Inner) where
   unfoldable pub bounds_and_body : Place → Quantifier → NameTree → Gets ExprTree
   bounds_and_body p q n ts = w TheRange ts >>= λ r. body r.1 >>= λ e. Ok (QuantifiedOf p q n r.0.0 r.0.1 e.0, e.1)
 
-  unfoldable pub quantified_behind : Place → Quantifier → Gets ExprTree
-  quantified_behind p q ts = bound ts >>= λ n. bounds_and_body p q n.0 n.1
+  unfoldable pub quantified_after : Place → Quantifier → Gets ExprTree
+  quantified_after p q ts = bound ts >>= λ n. bounds_and_body p q n.0 n.1
 
   unfoldable pub quantified : Place → Quantifier → Gets ExprTree
-  quantified p q = take (tokened (or_left_out (the symbol.OpenBrace))) (held d (λ _. quantified_behind p q) (BaseOf p))
+  quantified p q = take (tokened (or_left_out (the symbol.OpenBrace))) (held d (λ _. quantified_after p q) (BaseOf p))
 
   -- ---- casts and parentheses
 
@@ -166,28 +166,28 @@ module _ (d : ℕ) (w : Inner) where
   unfoldable pub negated : Place → Gets ExprTree
   negated p = choose (is the_least) (take the_least (λ _. postfixes p (NumberOf p (negsuc 2147483647)))) (negation p)
 
-  unfoldable pub unary_behind : Head → Gets ExprTree
-  unary_behind (NegateHead p) ts = negated p ts
-  unary_behind (NotHead p) ts = w TheUnary ts >>= λ e. Ok (NotOf p e.0, e.1)
-  unary_behind (OpenHead p) ts = paren p ts
-  unary_behind (Leaf p v) ts = postfixes p v ts
-  unary_behind (OldHead p) ts = old p ts >>= λ e. postfixes p e.0 e.1
-  unary_behind (NewHead p) ts = new p ts >>= λ e. postfixes p e.0 e.1
-  unary_behind (QuantifierHead p q) ts = quantified p q ts >>= λ e. postfixes p e.0 e.1
+  unfoldable pub unary_after : Head → Gets ExprTree
+  unary_after (NegateHead p) ts = negated p ts
+  unary_after (NotHead p) ts = w TheUnary ts >>= λ e. Ok (NotOf p e.0, e.1)
+  unary_after (OpenHead p) ts = paren p ts
+  unary_after (Leaf p v) ts = postfixes p v ts
+  unary_after (OldHead p) ts = old p ts >>= λ e. postfixes p e.0 e.1
+  unary_after (NewHead p) ts = new p ts >>= λ e. postfixes p e.0 e.1
+  unary_after (QuantifierHead p q) ts = quantified p q ts >>= λ e. postfixes p e.0 e.1
 
   unfoldable pub unary : Gets ExprTree
-  unary = take (tokened unary_head) (λ x. opened (head_opens x.0) d (unary_behind x.0) x.1)
+  unary = take (tokened unary_head) (λ x. opened (head_opens x.0) d (unary_after x.0) x.1)
 
   -- ---- operators
 
-  unfoldable pub link_behind : Gets ExprTree → LinkHead → Gets Behind
-  link_behind e (Operation op) ts = e ts >>= λ b. Ok ((λ p a. BinaryOf p op a b.0), b.1)
-  link_behind e IsHead ts = plain_type d ts >>= λ t. Ok ((λ p a. IsOf p a t.0), t.1)
-  link_behind e AsHead ts = plain_type d ts >>= λ t. Ok ((λ p a. AsOf p a t.0), t.1)
+  unfoldable pub link_after : Gets ExprTree → LinkHead → Gets Behind
+  link_after e (Operation op) ts = e ts >>= λ b. Ok ((λ p a. BinaryOf p op a b.0), b.1)
+  link_after e IsHead ts = plain_type d ts >>= λ t. Ok ((λ p a. IsOf p a t.0), t.1)
+  link_after e AsHead ts = plain_type d ts >>= λ t. Ok ((λ p a. AsOf p a t.0), t.1)
 
   unfoldable pub chain : ℕ → Place → ExprTree → Gets ExprTree
   chain zero p a ts = Ok (a, ts)
-  chain (suc k) p a ts = chain k p a ts >>= λ x. times (link_head (suc k)) (link_behind (here place_at (λ q ts. unary ts >>= λ b. chain k q b.0 b.1))) (joins p) (length x.1) x.0 x.1
+  chain (suc k) p a ts = chain k p a ts >>= λ x. times (link_head (suc k)) (link_after (here place_at (λ q ts. unary ts >>= λ b. chain k q b.0 b.1))) (joins p) (length x.1) x.0 x.1
 
   unfoldable pub operand : ℕ → Gets ExprTree
   operand k = here place_at (λ q ts. unary ts >>= λ b. chain k q b.0 b.1)
@@ -213,7 +213,7 @@ module _ (d : ℕ) (w : Inner) where
   unfoldable pub whole_expression : Gets ExprTree
   whole_expression = here place_at (λ p ts. unary ts >>= λ a. expression_from p a.0 a.1)
 
-  -- ---- behind `(` and a name
+  -- ---- after `(` and a name
 
   unfoldable pub rest_of : Place → ExprTree → Gets ExprTree
   rest_of p a ts = postfixes p a ts >>= λ b. expression_from p b.0 b.1
@@ -227,15 +227,15 @@ module _ (d : ℕ) (w : Inner) where
   unfoldable pub element_or_array : NameTree → Gets Enclosed
   element_or_array n = choose (is (the symbol.CloseBracket)) (array_end n) (element_end n)
 
-  unfoldable pub named_behind : NameTree → NamedHead → Gets Enclosed
-  named_behind n BangBehind ts = Ok (AType (type_of (head_of n) false true), ts)
-  named_behind n BracketBehind ts = element_or_array n ts
+  unfoldable pub named_after : NameTree → NamedHead → Gets Enclosed
+  named_after n BangAfter ts = Ok (AType (type_of (head_of n) false true), ts)
+  named_after n BracketAfter ts = element_or_array n ts
 
   unfoldable pub named_rest : NameTree → Gets Enclosed
   named_rest n ts = rest_of n.place (named n) ts >>= λ e. Ok (AnExpr e.0, e.1)
 
   unfoldable pub named_end : NameTree → Gets Enclosed
-  named_end n = choose (is named_head) (take (tokened named_head) (λ x. opened (named_opens x.0) d (named_behind n x.0) x.1)) (named_rest n)
+  named_end n = choose (is named_head) (take (tokened named_head) (λ x. opened (named_opens x.0) d (named_after n x.0) x.1)) (named_rest n)
 
   -- ---- all parts
 

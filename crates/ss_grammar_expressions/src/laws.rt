@@ -26,13 +26,13 @@ pub fn no_expression_takes_the_end()
     ensures { (d : ℕ) (ts : List Piece) (e : ExprTree) → Expression d ts e → TakesNoEnd ts }
 {}
 
-/// A cast, `Type ")" Unary`, is read as what stands behind a `(`.
-pub fn a_cast_stands_behind_a_parenthesis()
+/// A cast, `Type ")" Unary`, is read as what stands after a `(`.
+pub fn a_cast_stands_after_a_parenthesis()
     ensures { (d : ℕ) (p : Place) (ts : List Piece) (e : ExprTree) → Casted (AtLevel d) p ts e → Paren (AtLevel d) p ts e }
 {}
 
-/// What stands behind a `(`, which is told apart by its first tokens, is `Type ")" Unary` or `Expr ")"` with its postfixes.
-pub fn behind_a_parenthesis_are_two_productions()
+/// What stands after a `(`, which is told apart by its first tokens, is `Type ")" Unary` or `Expr ")"` with its postfixes.
+pub fn after_a_parenthesis_are_two_productions()
     ensures { (d : ℕ) (p : Place) (ts : List Piece) (e : ExprTree) → Paren (AtLevel d) p ts e → Casted (AtLevel d) p ts e ⊎ OtherParen (AtLevel d) p ts e }
 {}
 

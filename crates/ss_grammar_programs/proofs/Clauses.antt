@@ -21,10 +21,10 @@ use Rattle.ss_grammar_statements.specs.Parser.{ended, prim}
 use Rattle.ss_grammar_statements.proofs.Pieces.{prim_first}
 use Rattle.ss_grammar_statements.proofs.Parts.{ended_to}
 use Rattle.ss_grammar_statements.proofs.Openings.{take_heads, heads_alive}
-use Rattle.ss_grammar_programs.specs.Grammar.{AtDepth, push_behind, Reached, Path, Whole, path_goes, Step, stepped, modified, DotStep, IndexStep, CallStep, StepBehind, AnyStep, ModifiedFrom, Modified, Modifies, ClauseBehind, Clauses}
+use Rattle.ss_grammar_programs.specs.Grammar.{AtDepth, push_after, Reached, Path, Whole, path_goes, Step, stepped, modified, DotStep, IndexStep, CallStep, StepAfter, AnyStep, ModifiedFrom, Modified, Modifies, ClauseAfter, Clauses}
 use Rattle.ss_grammar_programs.specs.Heads.{ClauseHead, RequiresFirst, EnsuresFirst, ModifiesFirst, clause_head}
 use Rattle.ss_grammar_programs.specs.Again.{Again}
-use Rattle.ss_grammar_programs.specs.Parser.{expression, inner_expression, all_step, member_step, dot_step, elements_step, element_step, index_step, call_step, step_behind, step, steps, modified_from, modified_term, modifies, clause_behind, clauses}
+use Rattle.ss_grammar_programs.specs.Parser.{expression, inner_expression, all_step, member_step, dot_step, elements_step, element_step, index_step, call_step, step_after, step, steps, modified_from, modified_term, modifies, clause_after, clauses}
 use Rattle.ss_grammar_programs.proofs.Again.{repeated}
 use Rattle.ss_grammar_programs.proofs.Pieces.{clauses_set, clause_in}
 use Rattle.ss_grammar_programs.proofs.Opening.{made, expressions_to, inner_to, prims_to}
@@ -35,7 +35,7 @@ a_name_piece = of (AName [])
 abbrev pub an_empty_name : NameTree
 an_empty_name = record { text = []; place = no_place }
 
--- ---- behind a part of a term
+-- ---- after a part of a term
 
 all_to : (n : ℕ) → PartOf n (λ d. Take (the symbol.Star) (λ _. Done {A = Step} (λ p a. Whole (AllOf a)))) (28 ∷ []) [] false (λ d. all_step)
 unfolding all_step
@@ -77,10 +77,10 @@ call_step_to n = made n (λ d. ArgsEnd (Expression d)) (16 ∷ unary_first) [] (
 
 module _ (n : ℕ) where
   abbrev Behind : PostfixHead → ℕ → List Piece → Step → Type 0
-  Behind h d = StepBehind d h
+  Behind h d = StepAfter d h
 
   abbrev behind : PostfixHead → ℕ → Gets Step
-  behind h d = step_behind d h
+  behind h d = step_after d h
 
   abbrev step_first : List ℕ
   step_first = 32 ∷ 16 ∷ index_first
@@ -91,13 +91,13 @@ module _ (n : ℕ) where
   never CallHead e ts v q = q
 
   open_step : (h : PostfixHead) → postfix_opens h ≡ true → PartOf n (λ d. Behind h (suc d)) step_first [] false (λ d. behind h (suc d))
-  unfolding step_behind
+  unfolding step_after
   open_step DotHead e = absurd cc
   open_step IndexHead e = larger n IndexStep index_first [] step_first [] false (λ d. index_step (suc d)) refl refl (index_step_to n)
   open_step CallHead e = larger n CallStep (16 ∷ unary_first) [] step_first [] false (λ d. call_step (suc d)) refl refl (call_step_to n)
 
   leaf_step : (h : PostfixHead) → postfix_opens h ≡ false → PartOf (suc n) (Behind h) step_first [] false (behind h)
-  unfolding step_behind
+  unfolding step_after
   leaf_step DotHead e = larger (suc n) (λ d. DotStep) (28 ∷ 32 ∷ []) [] step_first [] false (λ d. dot_step) refl refl (dot_step_to (suc n))
   leaf_step IndexHead e = absurd cc
   leaf_step CallHead e = absurd cc
@@ -142,19 +142,19 @@ terms_goes = 21 ∷ postfix_set
 modifies_to : (n : ℕ) → PartOf (suc n) Modifies prim_first terms_goes false modifies
 unfolding modifies
 modifies_to n = larger (suc n) Modifies prim_first (terms_goes ++ postfix_set) prim_first terms_goes false modifies refl refl
-    (seq (suc n) false true Modified (λ m d. Many (the symbol.Comma) (λ _. Modified d) push_behind (m ∷ [])) prim_first postfix_set (21 ∷ []) terms_goes modified_term (λ m d ts. times (the symbol.Comma) (λ _. modified_term d) push_behind (length ts) (m ∷ []) ts) (modified_to n)
-    (λ m. many (suc n) (the symbol.Comma) (21 ∷ []) (the_in symbol.Comma) (λ _. Modified) push_behind prim_first postfix_set (λ _. modified_term) (λ _. modified_to n) refl (m ∷ [])) refl)
+    (seq (suc n) false true Modified (λ m d. Many (the symbol.Comma) (λ _. Modified d) push_after (m ∷ [])) prim_first postfix_set (21 ∷ []) terms_goes modified_term (λ m d ts. times (the symbol.Comma) (λ _. modified_term d) push_after (length ts) (m ∷ []) ts) (modified_to n)
+    (λ m. many (suc n) (the symbol.Comma) (21 ∷ []) (the_in symbol.Comma) (λ _. Modified) push_after prim_first postfix_set (λ _. modified_term) (λ _. modified_to n) refl (m ∷ [])) refl)
 
 pub conditions_to : (n : ℕ) → PartOf n (λ d. Ended (Expression d)) unary_first [] false (λ d. ended (expression d))
 conditions_to n = ended_to n Expression unary_first expr_goes expression (expressions_to n) refl
 
-clause_behind_to : (n : ℕ) (h : ClauseHead) → PartOf (suc n) (λ d. ClauseBehind d h) unary_first [] false (λ d. clause_behind d h)
-unfolding clause_behind
-clause_behind_to n RequiresFirst = made (suc n) (λ d. Ended (Expression d)) unary_first [] (λ d. ended (expression d)) RequiresOf (conditions_to (suc n))
-clause_behind_to n EnsuresFirst = made (suc n) (λ d. Ended (Expression d)) unary_first [] (λ d. ended (expression d)) EnsuresOf (conditions_to (suc n))
-clause_behind_to n ModifiesFirst = larger (suc n) (λ d. ClauseBehind d ModifiesFirst) prim_first [] unary_first [] false (λ d. clause_behind d ModifiesFirst) refl refl
+clause_after_to : (n : ℕ) (h : ClauseHead) → PartOf (suc n) (λ d. ClauseAfter d h) unary_first [] false (λ d. clause_after d h)
+unfolding clause_after
+clause_after_to n RequiresFirst = made (suc n) (λ d. Ended (Expression d)) unary_first [] (λ d. ended (expression d)) RequiresOf (conditions_to (suc n))
+clause_after_to n EnsuresFirst = made (suc n) (λ d. Ended (Expression d)) unary_first [] (λ d. ended (expression d)) EnsuresOf (conditions_to (suc n))
+clause_after_to n ModifiesFirst = larger (suc n) (λ d. ClauseAfter d ModifiesFirst) prim_first [] unary_first [] false (λ d. clause_after d ModifiesFirst) refl refl
     (made (suc n) (λ d. Ended (Modifies d)) prim_first [] (λ d. ended (modifies d)) ModifiesOf (ended_to (suc n) Modifies prim_first terms_goes modifies (modifies_to n) refl))
 
 pub clauses_to : (n : ℕ) → PartOf (suc n) Clauses clauses_set clauses_set true clauses
 unfolding clauses
-clauses_to n = many (suc n) clause_head clauses_set clause_in (λ h d. ClauseBehind d h) push_behind unary_first [] (λ h d. clause_behind d h) (clause_behind_to n) refl []
+clauses_to n = many (suc n) clause_head clauses_set clause_in (λ h d. ClauseAfter d h) push_after unary_first [] (λ h d. clause_after d h) (clause_after_to n) refl []

@@ -29,8 +29,8 @@ use Rattle.ss_grammar_statements.proofs.Parts.{perhaps}
 use Rattle.ss_grammar_statements.proofs.Tied.{block_to}
 use Rattle.ss_grammar_programs.specs.Again.{Again}
 use Rattle.ss_grammar_programs.specs.Heads.{member_word, MemberHead, InvariantFirst, VoidFirst, WordFirst, NameFirst, member_head, begins_member, begins_kind, type_follows, fields_follow}
-use Rattle.ss_grammar_programs.specs.Grammar.{AtDepth, push, Opening, attribute_at, Attributes, TypeFrom, Parameters, Clauses, Specified, Fields, Method, base_call, BaseEnd, BaseCall, Constructor, FieldsOrMethod, Typed, KindBehind, MemberKind, join_word, Words, Member}
-use Rattle.ss_grammar_programs.specs.Parser.{expression, inner_expression, attributes, parameters, clauses, specified, fields, method, base_end, base_behind, base, constructor, fields_or_method, typed, void_method, name_first, kind_behind, member_kind, words, member, members}
+use Rattle.ss_grammar_programs.specs.Grammar.{AtDepth, push, Opening, attribute_at, Attributes, TypeFrom, Parameters, Clauses, Specified, Fields, Method, base_call, BaseEnd, BaseCall, Constructor, FieldsOrMethod, Typed, KindAfter, MemberKind, join_word, Words, Member}
+use Rattle.ss_grammar_programs.specs.Parser.{expression, inner_expression, attributes, parameters, clauses, specified, fields, method, base_end, base_after, base, constructor, fields_or_method, typed, void_method, name_first, kind_after, member_kind, words, member, members}
 use Rattle.ss_grammar_programs.proofs.Again.{repeated}
 use Rattle.ss_grammar_programs.proofs.Pieces.{words_set, kinds_set, members_set, clauses_set, word_in, kind_in, member_in, type_follows_in, fields_follow_in}
 use Rattle.ss_grammar_programs.proofs.Opening.{made, opening_to, inner_to, type_ends_to, declarators_to}
@@ -99,14 +99,14 @@ base_end_to : (n : ℕ) (p : Place) → PartOf n (BaseEnd p) (16 ∷ unary_first
 unfolding base_end
 base_end_to n p = made n (λ d. ArgsEnd (Expression d)) (16 ∷ unary_first) [] (λ d. args_end (inner_expression (suc d))) (λ es. base_call p es) (args_end_to n Expression (λ d. inner_expression (suc d)) (inner_to n))
 
-base_behind_to : (n : ℕ) (p : Place) → PartOf (suc n) (Opening (the symbol.Open) (λ _. BaseEnd p) (base_call p [])) (36 ∷ 15 ∷ []) [] false (λ d. base_behind d p)
-unfolding base_behind
-base_behind_to n p = opening_to n (the symbol.Open) (15 ∷ []) (the_in symbol.Open) (λ _. BaseEnd p) (λ _ d. base_end p (suc d)) (base_call p []) (16 ∷ unary_first) false (λ _. base_end_to n p) (λ d _. base_end p d) (λ d _ ts. refl)
+base_after_to : (n : ℕ) (p : Place) → PartOf (suc n) (Opening (the symbol.Open) (λ _. BaseEnd p) (base_call p [])) (36 ∷ 15 ∷ []) [] false (λ d. base_after d p)
+unfolding base_after
+base_after_to n p = opening_to n (the symbol.Open) (15 ∷ []) (the_in symbol.Open) (λ _. BaseEnd p) (λ _ d. base_end p (suc d)) (base_call p []) (16 ∷ unary_first) false (λ _. base_end_to n p) (λ d _. base_end p d) (λ d _ ts. refl)
 
 base_to : (n : ℕ) → PartOf (suc n) BaseCall (20 ∷ []) (20 ∷ []) true base
 unfolding base
-base_to n = perhaps (suc n) (the symbol.Colon) (20 ∷ []) (the_in symbol.Colon) (λ _ d. Take (the_word word.Base) (λ p. Opening (the symbol.Open) (λ _. BaseEnd p) (base_call p []) d)) (54 ∷ []) [] false (λ _ d. take (the_word word.Base) (base_behind d))
-    (λ _. word_then (suc n) word.Base (λ p. Opening (the symbol.Open) (λ _. BaseEnd p) (base_call p [])) (36 ∷ 15 ∷ []) [] false (λ p d. base_behind d p) refl (base_behind_to n)) None
+base_to n = perhaps (suc n) (the symbol.Colon) (20 ∷ []) (the_in symbol.Colon) (λ _ d. Take (the_word word.Base) (λ p. Opening (the symbol.Open) (λ _. BaseEnd p) (base_call p []) d)) (54 ∷ []) [] false (λ _ d. take (the_word word.Base) (base_after d))
+    (λ _. word_then (suc n) word.Base (λ p. Opening (the symbol.Open) (λ _. BaseEnd p) (base_call p [])) (36 ∷ 15 ∷ []) [] false (λ p d. base_after d p) refl (base_after_to n)) None
 
 constructor_to : (n : ℕ) (x : NameTree) → PartOf (suc n) (λ d. Constructor d x) (36 ∷ 15 ∷ []) [] false (λ d. constructor d x)
 unfolding constructor
@@ -134,7 +134,7 @@ unfolding typed
 typed_to n t = seq (suc n) true false (λ d. TypeFrom d t) (λ y d. Bind AnyName (FieldsOrMethod d y)) type_set type_set (32 ∷ []) [] (λ d. type_end d t) (λ y d ts. name_at ts >>= λ x. fields_or_method d y x.0 x.1) (type_ends_to (suc n) t)
     (λ y. seq (suc n) false false (λ d. AnyName) (λ x d. FieldsOrMethod d y x) (32 ∷ []) [] behind_first [] (λ d. name_at) (λ x d. fields_or_method d y x) (name_to (suc n)) (fields_or_method_to n y) refl) refl
 
--- a name and `;` behind the first token of a type
+-- a name and `;` after the first token of a type
 one_field : (t : TypeHead) → Typed 0 t (a_name_piece ∷ of (ASymbol symbol.Semicolon) ∷ []) (FieldsOf (record { ty = type_of t false false; declarators = declared an_empty_name None ∷ [] }))
 one_field t = record {
   first = type_of t false false;
@@ -158,17 +158,17 @@ name_first_to n x = to_choose (suc n) type_follows (λ d. Typed d (head_of x)) (
 abbrev kind_first : List ℕ
 kind_first = unary_first ++ named_first
 
-kind_behind_to : (n : ℕ) (h : MemberHead) → PartOf (suc n) (λ d. KindBehind d h) kind_first [] false (λ d. kind_behind d h)
-unfolding kind_behind void_method
-kind_behind_to n InvariantFirst = larger (suc n) (λ d. KindBehind d InvariantFirst) unary_first [] kind_first [] false (λ d. kind_behind d InvariantFirst) refl refl (made (suc n) (λ d. Ended (Expression d)) unary_first [] (λ d. ended (expression d)) InvariantOf (conditions_to (suc n)))
-kind_behind_to n VoidFirst = larger (suc n) (λ d. KindBehind d VoidFirst) (32 ∷ []) [] kind_first [] false (λ d. kind_behind d VoidFirst) refl refl
+kind_after_to : (n : ℕ) (h : MemberHead) → PartOf (suc n) (λ d. KindAfter d h) kind_first [] false (λ d. kind_after d h)
+unfolding kind_after void_method
+kind_after_to n InvariantFirst = larger (suc n) (λ d. KindAfter d InvariantFirst) unary_first [] kind_first [] false (λ d. kind_after d InvariantFirst) refl refl (made (suc n) (λ d. Ended (Expression d)) unary_first [] (λ d. ended (expression d)) InvariantOf (conditions_to (suc n)))
+kind_after_to n VoidFirst = larger (suc n) (λ d. KindAfter d VoidFirst) (32 ∷ []) [] kind_first [] false (λ d. kind_after d VoidFirst) refl refl
     (seq (suc n) false false (λ d. AnyName) (λ x d. Method d None x) (32 ∷ []) [] (36 ∷ 15 ∷ []) [] (λ d. name_at) (λ x d. method d None x) (name_to (suc n)) (method_to n None) refl)
-kind_behind_to n (WordFirst t) = larger (suc n) (λ d. KindBehind d (WordFirst t)) typed_first [] kind_first [] false (λ d. kind_behind d (WordFirst t)) refl refl (typed_to n t)
-kind_behind_to n (NameFirst x) = larger (suc n) (λ d. KindBehind d (NameFirst x)) named_first [] kind_first [] false (λ d. kind_behind d (NameFirst x)) refl refl (name_first_to n x)
+kind_after_to n (WordFirst t) = larger (suc n) (λ d. KindAfter d (WordFirst t)) typed_first [] kind_first [] false (λ d. kind_after d (WordFirst t)) refl refl (typed_to n t)
+kind_after_to n (NameFirst x) = larger (suc n) (λ d. KindAfter d (NameFirst x)) named_first [] kind_first [] false (λ d. kind_after d (NameFirst x)) refl refl (name_first_to n x)
 
 kind_to : (n : ℕ) → PartOf (suc n) MemberKind kinds_set [] false member_kind
 unfolding member_kind
-kind_to n = token (suc n) member_head kinds_set kind_in (λ h d. KindBehind d h) kind_first [] false (λ h d. kind_behind d h) (kind_behind_to n) (of (AWord word.Invariant)) InvariantFirst refl
+kind_to n = token (suc n) member_head kinds_set kind_in (λ h d. KindAfter d h) kind_first [] false (λ h d. kind_after d h) (kind_after_to n) (of (AWord word.Invariant)) InvariantFirst refl
 
 pub member_to : (n : ℕ) → PartOf (suc n) Member members_set [] false member
 unfolding member
@@ -183,8 +183,8 @@ a_kind = (kind_to 0).good.some
 
 kind_alive : (t : Piece) (h : MemberHead) → member_head t ≡ Some h → Starts (MemberKind 0) (t ∷ [])
 kind_alive t h e =
-    let s = (kind_behind_to 0 h).good.some in
-    record { more = s.more; value = s.value; reads = subst (λ (o : Option MemberHead). After {T = Piece} {A = MemberKindTree} o (KindBehind 0) s.more s.value) (sym e) s.reads }
+    let s = (kind_after_to 0 h).good.some in
+    record { more = s.more; value = s.value; reads = subst (λ (o : Option MemberHead). After {T = Piece} {A = MemberKindTree} o (KindAfter 0) s.more s.value) (sym e) s.reads }
 
 by_kind : (t : Piece) → Starts (MemberKind 0) (t ∷ []) → Alive Member t
 by_kind t s = (

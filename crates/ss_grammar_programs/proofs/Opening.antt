@@ -8,7 +8,7 @@ use Rattle.ss_grammar.proofs.Good.{take_in}
 use Rattle.ss_grammar.proofs.Parts.{to_as}
 use Rattle.ss_grammar_expressions.specs.First.{tokened}
 use Rattle.ss_grammar_expressions.specs.Heads.{Piece, or_left_out, TypeHead}
-use Rattle.ss_grammar_expressions.specs.Grammar.{TheExpression, TheTypeEnd, TheRange, Expression, HeldBehind, Held}
+use Rattle.ss_grammar_expressions.specs.Grammar.{TheExpression, TheTypeEnd, TheRange, Expression, HeldAfter, Held}
 use Rattle.ss_grammar_expressions.specs.Parser.{Gets, held, reading, below, type_end}
 use Rattle.ss_grammar_expressions.proofs.Sets.{In, PartOf}
 use Rattle.ss_grammar_expressions.proofs.Levels.{may_open, by_levels, held_to}
@@ -41,18 +41,18 @@ pub less_one : (d : ℕ) → d ≡ suc d - 1
 less_one d = omega arith
 
 module _ {A B : Type 0} (n : ℕ) (f : Piece → Option B) (hs : List ℕ) (sub : (t : Piece) → known (f t) ≡ true → In hs t ≡ true) (K : B → ℕ → List Piece → A → Type 0) (k : B → ℕ → Gets A) (a : A) (first : List ℕ) (e : Bool) (parts : (b : B) → PartOf n (K b) first [] e (k b)) (m : ℕ → B → Gets A) (same : (d : ℕ) (b : B) (ts : List Piece) → k b d ts ≡ m (suc d) b ts) where
-  there : (x : Option B) (ts : List Piece) (v : A) → HeldBehind false (λ b. Inside (K b) 0) a x ts v → HeldBehind true (λ b. Inside (K b) 0) a x ts v
+  there : (x : Option B) (ts : List Piece) (v : A) → HeldAfter false (λ b. Inside (K b) 0) a x ts v → HeldAfter true (λ b. Inside (K b) 0) a x ts v
   there None ts v q = q
   there (Some b) ts v q = q
 
-  back : (x : Option B) (ts : List Piece) (v : A) → HeldBehind true (λ b. Inside (K b) 0) a x ts v → HeldBehind false (λ b. Inside (K b) 0) a x ts v
+  back : (x : Option B) (ts : List Piece) (v : A) → HeldAfter true (λ b. Inside (K b) 0) a x ts v → HeldAfter false (λ b. Inside (K b) 0) a x ts v
   back None ts v q = q
   back (Some b) ts v q = q
 
   pub opening_to : PartOf (suc n) (Opening f K a) (36 ∷ hs) [] false (λ d. take (tokened (or_left_out f)) (held d (m d) a))
   opening_to = by_levels (suc n) (λ d. Held (may_open d) f (λ b. Inside (K b) d) a) (Opening f K a) (36 ∷ hs) [] false (λ d. take (tokened (or_left_out f)) (held d (m d) a))
-      (λ ts v q. take_in (or_left_out f) (HeldBehind false (λ b. Inside (K b) 0) a) (HeldBehind true (λ b. Inside (K b) 0) a) there ts v q)
-      (λ ts v q. take_in (or_left_out f) (HeldBehind true (λ b. Inside (K b) 0) a) (HeldBehind false (λ b. Inside (K b) 0) a) back ts v q)
+      (λ ts v q. take_in (or_left_out f) (HeldAfter false (λ b. Inside (K b) 0) a) (HeldAfter true (λ b. Inside (K b) 0) a) there ts v q)
+      (λ ts v q. take_in (or_left_out f) (HeldAfter true (λ b. Inside (K b) 0) a) (HeldAfter false (λ b. Inside (K b) 0) a) back ts v q)
       (λ d ts v q. q) (λ d ts v q. q)
       (held_to n f hs sub K k a first e parts (λ d b. Inside (K b) d) m (λ d b ts v q. q) (λ d b ts v q. q) same)
 

@@ -18,7 +18,7 @@ use Rattle.ss_grammar_expressions.proofs.Pieces.{type_in}
 use Rattle.ss_grammar_expressions.proofs.Expressions.{name_to}
 use Rattle.ss_grammar_expressions.proofs.Unaries.{type_set}
 use Rattle.ss_grammar_statements.proofs.Openings.{many_heads}
-use Rattle.ss_grammar_programs.specs.Grammar.{push_behind, attribute_at, AttributeEnd, Attributes, TypeFrom, FullType, Parameter, Params, ParamsEnd, Parameters}
+use Rattle.ss_grammar_programs.specs.Grammar.{push_after, attribute_at, AttributeEnd, Attributes, TypeFrom, FullType, Parameter, Params, ParamsEnd, Parameters}
 use Rattle.ss_grammar_programs.specs.Parser.{attribute_end, attributes, full_type, parameter, params, some_params, params_end, parameters}
 use Rattle.ss_grammar_programs.proofs.Opening.{lower, made, less_one, opening_to, type_ends_to}
 
@@ -35,7 +35,7 @@ attribute_end_to n p = seq n false false (λ d. AnyName) (λ x d. Take (the symb
 
 pub attributes_to : (n : ℕ) → PartOf (suc n) Attributes (17 ∷ []) (17 ∷ []) true attributes
 unfolding attributes
-attributes_to n = many_heads n (the symbol.OpenBracket) (17 ∷ []) (the_in symbol.OpenBracket) (λ _. true) (λ p d. Inside (λ _. AttributeEnd p) d) (λ p d. attribute_end p) (32 ∷ []) [] false (λ _ h ts v q. q) (λ p h. attribute_end_to n p) (λ _ h. absurd cc) push_behind refl []
+attributes_to n = many_heads n (the symbol.OpenBracket) (17 ∷ []) (the_in symbol.OpenBracket) (λ _. true) (λ p d. Inside (λ _. AttributeEnd p) d) (λ p d. attribute_end p) (32 ∷ []) [] false (λ _ h ts v q. q) (λ p h. attribute_end_to n p) (λ _ h. absurd cc) push_after refl []
 
 full_type_to : (n : ℕ) → PartOf n FullType types type_set false full_type
 unfolding full_type
@@ -49,8 +49,8 @@ parameter_to n = seq (suc n) true false Attributes (λ xs d. Bind (FullType d) (
 
 params_to : (n : ℕ) → PartOf (suc n) Params params_first (21 ∷ []) false params
 unfolding params
-params_to n = seq (suc n) false true Parameter (λ p d. Many (the symbol.Comma) (λ _. Parameter d) push_behind (p ∷ [])) params_first [] (21 ∷ []) (21 ∷ []) parameter (λ p d ts. times (the symbol.Comma) (λ _. parameter d) push_behind (length ts) (p ∷ []) ts) (parameter_to n)
-    (λ p. many (suc n) (the symbol.Comma) (21 ∷ []) (the_in symbol.Comma) (λ _. Parameter) push_behind params_first [] (λ _. parameter) (λ _. parameter_to n) refl (p ∷ [])) refl
+params_to n = seq (suc n) false true Parameter (λ p d. Many (the symbol.Comma) (λ _. Parameter d) push_after (p ∷ [])) params_first [] (21 ∷ []) (21 ∷ []) parameter (λ p d ts. times (the symbol.Comma) (λ _. parameter d) push_after (length ts) (p ∷ []) ts) (parameter_to n)
+    (λ p. many (suc n) (the symbol.Comma) (21 ∷ []) (the_in symbol.Comma) (λ _. Parameter) push_after params_first [] (λ _. parameter) (λ _. parameter_to n) refl (p ∷ [])) refl
 
 some_params_to : (n : ℕ) → PartOf (suc n) (λ d. Bind (Params d) (λ ps. Take (the symbol.Close) (λ _. Done ps))) params_first [] false some_params
 unfolding some_params

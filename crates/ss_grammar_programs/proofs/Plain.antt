@@ -13,7 +13,7 @@ use Rattle.ss_ast.specs.Programs.{MemberKindTree}
 use Rattle.ss_grammar.specs.Language.{Done, After, Take, Maybe, Bind, Times, Inside}
 use Rattle.ss_grammar_expressions.specs.First.{Chosen, Choose}
 use Rattle.ss_grammar_expressions.specs.Heads.{Piece, AToken, LeftOut, or_left_out, the, a_name, TypeHead, type_head}
-use Rattle.ss_grammar_expressions.specs.Grammar.{Parts, NoParts, AtLevel, Deeper, HeldBehind, TypeEnd, AnyName, head_of, WholeExpression}
+use Rattle.ss_grammar_expressions.specs.Grammar.{Parts, NoParts, AtLevel, Deeper, HeldAfter, TypeEnd, AnyName, head_of, WholeExpression}
 use Rattle.ss_grammar_statements.specs.Grammar.{Initial, DeclsFrom, declared, join_declarator}
 use Rattle.ss_grammar_programs.specs.Heads.{type_follows, fields_follow}
 use Rattle.ss_grammar_programs.specs.Grammar.{AtDepth, TypeFrom, ParamsEnd, Fields, Method, Constructor, FieldsOrMethod, Typed, MemberKind}
@@ -130,7 +130,7 @@ name_says (AToken t) n e = at t.kind t.place e
     at (AText x) p e = absurd cc
     at AnEnd p e = absurd cc
 
--- ---- what stands behind a declared name
+-- ---- what stands after a declared name
 
 decls_begin : (o : Bool) (V : Parts) (n : NameTree) (ts : List Piece) (cs : List DeclaratorTree) → DeclsFrom o V n ts cs → OrEmpty fields_follow ts
 decls_begin o V n ts cs q =
@@ -161,12 +161,12 @@ held_avoids f K (AToken t ∷ ts) us v l h q = at (the symbol.Open (AToken t)) r
     at (Some z) e r = h (AToken t) z e
 
 method_avoids : (d : ℕ) (t : Option TypeTree) (n : NameTree) (ts : List Piece) (k : MemberKindTree) → Method d t n ts k → Avoids fields_follow ts
-method_avoids d t n ts k q = subst (Avoids fields_follow) (sym q.parts) (held_avoids fields_follow (HeldBehind true (λ (_ : Place). Inside ParamsEnd d) []) q.front q.back q.first refl (by_symbol fields_follow symbol.Open false open_begins_no_field) q.reads)
+method_avoids d t n ts k q = subst (Avoids fields_follow) (sym q.parts) (held_avoids fields_follow (HeldAfter true (λ (_ : Place). Inside ParamsEnd d) []) q.front q.back q.first refl (by_symbol fields_follow symbol.Open false open_begins_no_field) q.reads)
 
 constructor_avoids : (d : ℕ) (n : NameTree) (ts : List Piece) (k : MemberKindTree) → Constructor d n ts k → Avoids type_follows ts
-constructor_avoids d n ts k q = subst (Avoids type_follows) (sym q.parts) (held_avoids type_follows (HeldBehind true (λ (_ : Place). Inside ParamsEnd d) []) q.front q.back q.first refl (by_symbol type_follows symbol.Open false open_begins_no_type) q.reads)
+constructor_avoids d n ts k q = subst (Avoids type_follows) (sym q.parts) (held_avoids type_follows (HeldAfter true (λ (_ : Place). Inside ParamsEnd d) []) q.front q.back q.first refl (by_symbol type_follows symbol.Open false open_begins_no_type) q.reads)
 
--- ---- behind a name that begins a type
+-- ---- after a name that begins a type
 
 type_end_begins : (o : Bool) (h : TypeHead) (ts : List Piece) (t : TypeTree) → TypeEnd o h ts t → OrEmpty type_follows ts
 type_end_begins o h ts t q =

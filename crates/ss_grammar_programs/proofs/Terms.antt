@@ -10,17 +10,17 @@ use Rattle.ss_ast.specs.Programs.{ModifiedTree, AllOf, ElementsOf, OneOf}
 use Rattle.ss_grammar.specs.Language.{Done, After, Take, Maybe, Bind, Times, Many, Inside}
 use Rattle.ss_grammar_expressions.specs.First.{Chosen, Choose, Here}
 use Rattle.ss_grammar_expressions.specs.Heads.{Piece, AToken, LeftOut, place_at, is, found, the, a_name, PostfixHead, DotHead, IndexHead, CallHead, postfix_head, Head, unary_head}
-use Rattle.ss_grammar_expressions.specs.Grammar.{TheExpression, Parts, NoParts, AtLevel, AnyName, ArgsEnd, IndexEnd, PostfixBehind, Postfixes, joined, UnaryBehind, Unary, WholeExpression}
+use Rattle.ss_grammar_expressions.specs.Grammar.{TheExpression, Parts, NoParts, AtLevel, AnyName, ArgsEnd, IndexEnd, PostfixAfter, Postfixes, joined, UnaryAfter, Unary, WholeExpression}
 use Rattle.ss_grammar_statements.specs.Grammar.{Prim}
 use Rattle.ss_grammar_programs.specs.Again.{AtMost, Again}
-use Rattle.ss_grammar_programs.specs.Grammar.{AtDepth, Reached, Path, Whole, path_goes, Step, stepped, modified, DotStep, IndexStep, StepBehind, AnyStep, ModifiedFrom, Modified}
-use Rattle.ss_grammar_programs.specs.Terms.{PostfixesAt, AllBehind, ElementsBehind, PathThen, Term, all, elements, one}
+use Rattle.ss_grammar_programs.specs.Grammar.{AtDepth, Reached, Path, Whole, path_goes, Step, stepped, modified, DotStep, IndexStep, StepAfter, AnyStep, ModifiedFrom, Modified}
+use Rattle.ss_grammar_programs.specs.Terms.{PostfixesAt, AllAfter, ElementsAfter, PathThen, Term, all, elements, one}
 
 -- what was read of a term: a path, or a path and what ends it
 pub data Read : ℕ → Place → ExprTree → List Piece → Reached → Type 0 where
   path : {d : ℕ} {p : Place} {a : ExprTree} {ts : List Piece} (b : ExprTree) → PostfixesAt d p a ts b → Read d p a ts (Path b)
-  ended : {d : ℕ} {p : Place} {a : ExprTree} {ts : List Piece} (m : ModifiedTree) → Bind (PostfixesAt d p a) AllBehind ts m → Read d p a ts (Whole m)
-  indexed : {d : ℕ} {p : Place} {a : ExprTree} {ts : List Piece} (m : ModifiedTree) → Bind (PostfixesAt d p a) (ElementsBehind d) ts m → Read d p a ts (Whole m)
+  ended : {d : ℕ} {p : Place} {a : ExprTree} {ts : List Piece} (m : ModifiedTree) → Bind (PostfixesAt d p a) AllAfter ts m → Read d p a ts (Whole m)
+  indexed : {d : ℕ} {p : Place} {a : ExprTree} {ts : List Piece} (m : ModifiedTree) → Bind (PostfixesAt d p a) (ElementsAfter d) ts m → Read d p a ts (Whole m)
 
 -- ---- one postfix more in front
 
@@ -30,16 +30,16 @@ none (suc d) p a = (0, (refl, refl))
 
 -- what a postfix does, at depth d
 abbrev Does : ℕ → PostfixHead → List Piece → Behind → Type 0
-Does zero h = PostfixBehind false NoParts h
-Does (suc d) h = PostfixBehind true (AtLevel d) h
+Does zero h = PostfixAfter false NoParts h
+Does (suc d) h = PostfixAfter true (AtLevel d) h
 
 front_many : (K : PostfixHead → List Piece → Behind → Type 0) (p : Place) (h : PostfixHead) (t : Piece) (front back : List Piece) (f : Behind) (a b : ExprTree) → postfix_head t ≡ Some h → K h front f → Many postfix_head K (joined p) (f p a) back b → Many postfix_head K (joined p) a (t ∷ (front ++ back)) b
 front_many K p h t front back f a b e k m =
     (suc m.0, subst (λ (o : Option PostfixHead). After o (λ g. Bind (K g) (λ r. Times postfix_head K (joined p) m.0 (joined p a g r))) (front ++ back) b) (sym e) (record { first = f; front = front; back = back; parts = refl; reads = k; goes_on = m.1 }))
 
 front_path : (d : ℕ) (p : Place) (h : PostfixHead) (t : Piece) (front back : List Piece) (f : Behind) (a b : ExprTree) → postfix_head t ≡ Some h → Does d h front f → PostfixesAt d p (f p a) back b → PostfixesAt d p a (t ∷ (front ++ back)) b
-front_path zero p h t front back f a b e k m = front_many (PostfixBehind false NoParts) p h t front back f a b e k m
-front_path (suc d) p h t front back f a b e k m = front_many (PostfixBehind true (AtLevel d)) p h t front back f a b e k m
+front_path zero p h t front back f a b e k m = front_many (PostfixAfter false NoParts) p h t front back f a b e k m
+front_path (suc d) p h t front back f a b e k m = front_many (PostfixAfter true (AtLevel d)) p h t front back f a b e k m
 
 front_bind : (d : ℕ) (p : Place) (h : PostfixHead) (t : Piece) (front back : List Piece) (f : Behind) (a : ExprTree) (K : ExprTree → List Piece → ModifiedTree → Type 0) (m : ModifiedTree) → postfix_head t ≡ Some h → Does d h front f → Bind (PostfixesAt d p (f p a)) K back m → Bind (PostfixesAt d p a) K (t ∷ (front ++ back)) m
 front_bind d p h t front back f a K m e k b = record {
@@ -53,10 +53,10 @@ front_bind d p h t front back f a K m e k b = record {
 
 more : (d : ℕ) (p : Place) (h : PostfixHead) (t : Piece) (front back : List Piece) (f : Behind) (a : ExprTree) (r : Reached) → postfix_head t ≡ Some h → Does d h front f → Read d p (f p a) back r → Read d p a (t ∷ (front ++ back)) r
 more d p h t front back f a _ e k (path b q) = path b (front_path d p h t front back f a b e k q)
-more d p h t front back f a _ e k (ended m q) = ended m (front_bind d p h t front back f a AllBehind m e k q)
-more d p h t front back f a _ e k (indexed m q) = indexed m (front_bind d p h t front back f a (ElementsBehind d) m e k q)
+more d p h t front back f a _ e k (ended m q) = ended m (front_bind d p h t front back f a AllAfter m e k q)
+more d p h t front back f a _ e k (indexed m q) = indexed m (front_bind d p h t front back f a (ElementsAfter d) m e k q)
 
--- ---- behind a whole term nothing more is read
+-- ---- after a whole term nothing more is read
 
 whole_done : (d n : ℕ) (p : Place) (m : ModifiedTree) (ts : List Piece) (r : Reached) → AtMost path_goes (AnyStep d) (stepped p) n (Whole m) ts r → (ts ≡ []) × (r ≡ Whole m)
 whole_done d zero p m ts r q = q
@@ -78,7 +78,7 @@ after_end : {A B C : Type 0} (o : Option C) (g : A) (v : B) (front back : List P
 after_end None g v front back s p e = absurd p
 after_end (Some c) g v front back s p e = ((ap (λ y. y ++ back) p.0 ∙ e, refl), p.1)
 
--- a token and nothing behind it
+-- a token and nothing after it
 token_end : {A B C : Type 0} (f : Piece → Option C) (g : A) (v : B) (front back : List Piece) (s : A) → Take f (λ _. Done g) front s → back ≡ [] → Take f (λ _. Done v) (front ++ back) v × (s ≡ g)
 token_end f g v [] back s p e = absurd p
 token_end f g v (x ∷ front) back s p e = after_end (f x) g v front back s p e
@@ -153,7 +153,7 @@ module _ (n : ℕ) (p : Place) (a : ExprTree) (t : Piece) (front back : List Pie
   to_more d h L f e does again q m =
       more d p h t front back (f q.first) a r e (does front (f q.first) (record { first = q.first; front = q.front; back = q.back; parts = q.parts; reads = q.reads; goes_on = (q.goes_on.0, refl) })) (again (f q.first p a) (rest_of d (λ q1 b. Path (f q.first q1 b)) q.goes_on.1 m))
 
-  step_read : (d : ℕ) (o : Option PostfixHead) → postfix_head t ≡ o → ((b : ExprTree) → Rest d (Path b) → Read d p b back r) → After o (StepBehind d) front s → Rest d (s p a) → Goal d
+  step_read : (d : ℕ) (o : Option PostfixHead) → postfix_head t ≡ o → ((b : ExprTree) → Rest d (Path b) → Read d p b back r) → After o (StepAfter d) front s → Rest d (s p a) → Goal d
   step_read d None e again q m = absurd q
   step_read zero (Some DotHead) e again q m = choice (is (the symbol.Star)) (Take (the symbol.Star) (λ _. Done (λ (q : Place) (b : ExprTree). Whole (AllOf b)))) (Bind AnyName (λ i. Done (λ (q : Place) (b : ExprTree). Path (MemberOf q b i)))) front s (λ x. to_all zero e x m) (λ x. to_more zero DotHead AnyName (λ i q b. MemberOf q b i) e (λ us g y. y) again x m) q
   step_read (suc d) (Some DotHead) e again q m = choice (is (the symbol.Star)) (Take (the symbol.Star) (λ _. Done (λ (q : Place) (b : ExprTree). Whole (AllOf b)))) (Bind AnyName (λ i. Done (λ (q : Place) (b : ExprTree). Path (MemberOf q b i)))) front s (λ x. to_all (suc d) e x m) (λ x. to_more (suc d) DotHead AnyName (λ i q b. MemberOf q b i) e (λ us g y. y) again x m) q
@@ -165,7 +165,7 @@ module _ (n : ℕ) (p : Place) (a : ExprTree) (t : Piece) (front back : List Pie
 done_read : (d : ℕ) (p : Place) (a : ExprTree) (ts : List Piece) (r : Reached) → Done (Path a) ts r → Read d p a ts r
 done_read d p a ts r q = subst (λ (y : List Piece). Read d p a y r) (sym q.0) (subst (λ (z : Reached). Read d p a [] z) (sym q.1) (path a (none d p a)))
 
--- one step and what is read behind it
+-- one step and what is read after it
 stepping : (d n : ℕ) (p : Place) (a : ExprTree) (ts : List Piece) (r : Reached) → ((c : ExprTree) (us : List Piece) → AtMost path_goes (AnyStep d) (stepped p) n (Path c) us r → Read d p c us r) → Bind (AnyStep d) (λ s. AtMost path_goes (AnyStep d) (stepped p) n (stepped p (Path a) s)) ts r → Read d p a ts r
 stepping d n p a ts r again b = at b.front b.reads b.parts
   where
@@ -182,8 +182,8 @@ reads d (suc n) p a (t ∷ ts) r q = chosen (is postfix_head t) (Bind (AnyStep d
 
 finish : (d : ℕ) (t : Piece) (us : List Piece) (a : ExprTree) (front back : List Piece) → t ∷ us ≡ front ++ back → AtDepth Prim d front a → (m : ModifiedTree) (r : Reached) → Read d (place_at t) a back r → m ≡ modified r → Term d (t ∷ us) m
 finish d t us a front back e prim m _ (path b q) is = one (record { first = a; front = front; back = back; parts = e; reads = prim; goes_on = record { first = b; front = back; back = []; parts = sym (append-nil back); reads = q; goes_on = (refl, is) } })
-finish d t us a front back e prim m _ (ended w q) is = all (record { first = a; front = front; back = back; parts = e; reads = prim; goes_on = subst (λ (x : ModifiedTree). Bind (PostfixesAt d (place_at t) a) AllBehind back x) (sym is) q })
-finish d t us a front back e prim m _ (indexed w q) is = elements (record { first = a; front = front; back = back; parts = e; reads = prim; goes_on = subst (λ (x : ModifiedTree). Bind (PostfixesAt d (place_at t) a) (ElementsBehind d) back x) (sym is) q })
+finish d t us a front back e prim m _ (ended w q) is = all (record { first = a; front = front; back = back; parts = e; reads = prim; goes_on = subst (λ (x : ModifiedTree). Bind (PostfixesAt d (place_at t) a) AllAfter back x) (sym is) q })
+finish d t us a front back e prim m _ (indexed w q) is = elements (record { first = a; front = front; back = back; parts = e; reads = prim; goes_on = subst (λ (x : ModifiedTree). Bind (PostfixesAt d (place_at t) a) (ElementsAfter d) back x) (sym is) q })
 
 pub is_term : (d : ℕ) (ts : List Piece) (m : ModifiedTree) → Modified d ts m → Term d ts m
 is_term d [] m q = absurd q
@@ -240,7 +240,7 @@ whole_no_star o V (u ∷ us) back e q = subst (λ (y : List Piece). NoStar (y ++
   where
     at : (ws : List Piece) → Unary o V ws q.first → NoStar ((ws ++ q.back) ++ back)
     at [] r = absurd r
-    at (w ∷ ws) r = unary_no_star w (UnaryBehind o V) ws q.first r
+    at (w ∷ ws) r = unary_no_star w (UnaryAfter o V) ws q.first r
 
 expression_no_star : (d : ℕ) (us back : List Piece) (e : ExprTree) → AtLevel d TheExpression us e → NoStar (us ++ back)
 expression_no_star zero us back e q = whole_no_star false NoParts us back e q
@@ -267,7 +267,7 @@ index_back d us f q =
     (subst NoStar (sym (q.parts ∙ ap (λ y. y ++ q.back) r.parts ∙ append_assoc r.front r.back q.back)) (expression_no_star d r.front (r.back ++ q.back) r.first r.reads))
     (as_step (IndexEnd (AtLevel d TheExpression)) (λ i p a. ElementOf p a i) us f q)
 
-step_back : (d : ℕ) (h : PostfixHead) (us : List Piece) (f : Behind) → Does d h us f → StepBehind d h us (as_path f)
+step_back : (d : ℕ) (h : PostfixHead) (us : List Piece) (f : Behind) → Does d h us f → StepAfter d h us (as_path f)
 step_back zero DotHead us f q = dot_back us f q
 step_back (suc d) DotHead us f q = dot_back us f q
 step_back zero IndexHead us f q = absurd q
@@ -283,18 +283,18 @@ Steps d p n x = AtMost path_goes (AnyStep d) (stepped p) n x
 abbrev Goes : ℕ → Place → ExprTree → List Piece → Reached → Type 0
 Goes d p a ts r = (n : ℕ) × Steps d p n (Path a) ts r
 
-step_more : (d k : ℕ) (p : Place) (a : ExprTree) (t : Piece) (h : PostfixHead) (front back : List Piece) (s : Step) (r : Reached) → postfix_head t ≡ Some h → StepBehind d h front s → Steps d p k (s p a) back r → Steps d p (suc k) (Path a) (t ∷ (front ++ back)) r
+step_more : (d k : ℕ) (p : Place) (a : ExprTree) (t : Piece) (h : PostfixHead) (front back : List Piece) (s : Step) (r : Reached) → postfix_head t ≡ Some h → StepAfter d h front s → Steps d p k (s p a) back r → Steps d p (suc k) (Path a) (t ∷ (front ++ back)) r
 step_more d k p a t h front back s r e q m =
     subst (λ (x : Option PostfixHead). Chosen (found x) (Bind (AnyStep d) (λ g. Steps d p k (stepped p (Path a) g))) (Done (Path a)) (t ∷ (front ++ back)) r) (sym e) (record {
       first = s;
       front = t ∷ front;
       back = back;
       parts = refl;
-      reads = subst (λ (x : Option PostfixHead). After x (StepBehind d) front s) (sym e) q;
+      reads = subst (λ (x : Option PostfixHead). After x (StepAfter d) front s) (sym e) q;
       goes_on = m;
     })
 
-module _ (d : ℕ) (K : PostfixHead → List Piece → Behind → Type 0) (does : (h : PostfixHead) (us : List Piece) (f : Behind) → K h us f → StepBehind d h us (as_path f)) (p : Place) where
+module _ (d : ℕ) (K : PostfixHead → List Piece → Behind → Type 0) (does : (h : PostfixHead) (us : List Piece) (f : Behind) → K h us f → StepAfter d h us (as_path f)) (p : Place) where
   further : (n : ℕ) (a b : ExprTree) (t : Piece) (us rest : List Piece) (r : Reached) → ((c : ExprTree) (vs : List Piece) → Times postfix_head K (joined p) n c vs b → Goes d p c (vs ++ rest) r) → After (postfix_head t) (λ h. Bind (K h) (λ f. Times postfix_head K (joined p) n (joined p a h f))) us b → Goes d p a (t ∷ (us ++ rest)) r
   further n a b t us rest r again q = at (postfix_head t) refl q
     where
@@ -311,8 +311,8 @@ module _ (d : ℕ) (K : PostfixHead → List Piece → Behind → Type 0) (does 
   extend (suc n) m a b (t ∷ us) rest r q s = further n a b t us rest r (λ c vs w. extend n m c b vs rest r w s) q
 
 path_then : (d m : ℕ) (p : Place) (a b : ExprTree) (ts rest : List Piece) (r : Reached) → PostfixesAt d p a ts b → Steps d p m (Path b) rest r → Goes d p a (ts ++ rest) r
-path_then zero m p a b ts rest r q s = extend zero (PostfixBehind false NoParts) (step_back zero) p q.0 m a b ts rest r q.1 s
-path_then (suc d) m p a b ts rest r q s = extend (suc d) (PostfixBehind true (AtLevel d)) (step_back (suc d)) p q.0 m a b ts rest r q.1 s
+path_then zero m p a b ts rest r q s = extend zero (PostfixAfter false NoParts) (step_back zero) p q.0 m a b ts rest r q.1 s
+path_then (suc d) m p a b ts rest r q s = extend (suc d) (PostfixAfter true (AtLevel d)) (step_back (suc d)) p q.0 m a b ts rest r q.1 s
 
 -- ---- what ends a term
 
@@ -364,10 +364,10 @@ abbrev elements_step : Step
 elements_step = λ q c. Whole (ElementsOf c)
 
 -- the last step, which is the whole rest
-last_step : (d : ℕ) (p : Place) (b : ExprTree) (t : Piece) (h : PostfixHead) (us : List Piece) (s : Step) (w : ModifiedTree) → s p b ≡ Whole w → postfix_head t ≡ Some h → StepBehind d h us s → Steps d p (suc zero) (Path b) (t ∷ us) (Whole w)
+last_step : (d : ℕ) (p : Place) (b : ExprTree) (t : Piece) (h : PostfixHead) (us : List Piece) (s : Step) (w : ModifiedTree) → s p b ≡ Whole w → postfix_head t ≡ Some h → StepAfter d h us s → Steps d p (suc zero) (Path b) (t ∷ us) (Whole w)
 last_step d p b t h us s w i e q = subst (λ (y : List Piece). Steps d p (suc zero) (Path b) (t ∷ y) (Whole w)) (append-nil us) (step_more d zero p b t h us [] s (Whole w) e q (refl, sym i))
 
-ends_in_all : (d : ℕ) (p : Place) (b : ExprTree) (ts : List Piece) (m : ModifiedTree) → AllBehind b ts m → Steps d p (suc zero) (Path b) ts (Whole (AllOf b)) × (m ≡ AllOf b)
+ends_in_all : (d : ℕ) (p : Place) (b : ExprTree) (ts : List Piece) (m : ModifiedTree) → AllAfter b ts m → Steps d p (suc zero) (Path b) ts (Whole (AllOf b)) × (m ≡ AllOf b)
 ends_in_all d p b [] m q = absurd q
 ends_in_all d p b (t ∷ us) m q = at (the symbol.Dot t) refl q
   where
@@ -378,7 +378,7 @@ ends_in_all d p b (t ∷ us) m q = at (the symbol.Dot t) refl q
         let s : Take (the symbol.Star) (λ _. Done all_step) us all_step = subst (λ (y : List Piece). Take (the symbol.Star) (λ _. Done all_step) y all_step) (append-nil us) k.0 in
         (last_step d p b t DotHead us all_step (AllOf b) refl (dot_is t z e) (taken (the symbol.Star) (λ _. Done all_step) (Bind AnyName (λ n. Done (λ (q : Place) (c : ExprTree). Path (MemberOf q c n)))) us all_step s), k.1)
 
-ends_in_elements : (d : ℕ) (p : Place) (b : ExprTree) (ts : List Piece) (m : ModifiedTree) → ElementsBehind d b ts m → Steps d p (suc zero) (Path b) ts (Whole (ElementsOf b)) × (m ≡ ElementsOf b)
+ends_in_elements : (d : ℕ) (p : Place) (b : ExprTree) (ts : List Piece) (m : ModifiedTree) → ElementsAfter d b ts m → Steps d p (suc zero) (Path b) ts (Whole (ElementsOf b)) × (m ≡ ElementsOf b)
 ends_in_elements d p b [] m q = absurd q
 ends_in_elements zero p b (t ∷ us) m q = at (the symbol.OpenBracket t) q
   where
@@ -404,21 +404,21 @@ one_back d p a ts m q =
     let i : ts ≡ q.front ++ [] = q.parts ∙ ap (λ y. q.front ++ y) q.goes_on.0 in
     finish_back d p a ts m (Path q.first) (subst (λ (y : List Piece). Goes d p a y (Path q.first)) (sym i) (path_then d zero p a q.first q.front [] (Path q.first) q.reads (refl, refl))) q.goes_on.1
 
-all_back : (d : ℕ) (p : Place) (a : ExprTree) (ts : List Piece) (m : ModifiedTree) → Bind (PostfixesAt d p a) AllBehind ts m → ModifiedFrom p a d ts m
+all_back : (d : ℕ) (p : Place) (a : ExprTree) (ts : List Piece) (m : ModifiedTree) → Bind (PostfixesAt d p a) AllAfter ts m → ModifiedFrom p a d ts m
 all_back d p a ts m q =
     let s = ends_in_all d p q.first q.back m q.goes_on in
     finish_back d p a ts m (Whole (AllOf q.first)) (subst (λ (y : List Piece). Goes d p a y (Whole (AllOf q.first))) (sym q.parts) (path_then d (suc zero) p a q.first q.front q.back (Whole (AllOf q.first)) q.reads s.0)) s.1
 
-elements_back : (d : ℕ) (p : Place) (a : ExprTree) (ts : List Piece) (m : ModifiedTree) → Bind (PostfixesAt d p a) (ElementsBehind d) ts m → ModifiedFrom p a d ts m
+elements_back : (d : ℕ) (p : Place) (a : ExprTree) (ts : List Piece) (m : ModifiedTree) → Bind (PostfixesAt d p a) (ElementsAfter d) ts m → ModifiedFrom p a d ts m
 elements_back d p a ts m q =
     let s = ends_in_elements d p q.first q.back m q.goes_on in
     finish_back d p a ts m (Whole (ElementsOf q.first)) (subst (λ (y : List Piece). Goes d p a y (Whole (ElementsOf q.first))) (sym q.parts) (path_then d (suc zero) p a q.first q.front q.back (Whole (ElementsOf q.first)) q.reads s.0)) s.1
 
-behind_path : (d : ℕ) (K : ExprTree → List Piece → ModifiedTree → Type 0) → ((p : Place) (a : ExprTree) (us : List Piece) (m : ModifiedTree) → Bind (PostfixesAt d p a) K us m → ModifiedFrom p a d us m) → (ts : List Piece) (m : ModifiedTree) → PathThen d K ts m → Modified d ts m
-behind_path d K f [] m q = absurd q
-behind_path d K f (t ∷ us) m q = record { first = q.first; front = q.front; back = q.back; parts = q.parts; reads = q.reads; goes_on = f (place_at t) q.first q.back m q.goes_on }
+after_path : (d : ℕ) (K : ExprTree → List Piece → ModifiedTree → Type 0) → ((p : Place) (a : ExprTree) (us : List Piece) (m : ModifiedTree) → Bind (PostfixesAt d p a) K us m → ModifiedFrom p a d us m) → (ts : List Piece) (m : ModifiedTree) → PathThen d K ts m → Modified d ts m
+after_path d K f [] m q = absurd q
+after_path d K f (t ∷ us) m q = record { first = q.first; front = q.front; back = q.back; parts = q.parts; reads = q.reads; goes_on = f (place_at t) q.first q.back m q.goes_on }
 
 pub term_is_modified : (d : ℕ) (ts : List Piece) (m : ModifiedTree) → Term d ts m → Modified d ts m
-term_is_modified d ts m (all q) = behind_path d AllBehind (all_back d) ts m q
-term_is_modified d ts m (elements q) = behind_path d (ElementsBehind d) (elements_back d) ts m q
-term_is_modified d ts m (one q) = behind_path d (λ a. Done (OneOf a)) (one_back d) ts m q
+term_is_modified d ts m (all q) = after_path d AllAfter (all_back d) ts m q
+term_is_modified d ts m (elements q) = after_path d (ElementsAfter d) (elements_back d) ts m q
+term_is_modified d ts m (one q) = after_path d (λ a. Done (OneOf a)) (one_back d) ts m q

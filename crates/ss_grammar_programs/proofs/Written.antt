@@ -11,7 +11,7 @@ use Rattle.ss_grammar_expressions.specs.First.{Chosen, Choose}
 use Rattle.ss_grammar_expressions.specs.Heads.{Piece, AToken, LeftOut, TypeHead, type_head}
 use Rattle.ss_grammar_expressions.specs.Grammar.{AnyName, head_of}
 use Rattle.ss_grammar_programs.specs.Heads.{head_kind, member_head, type_follows, fields_follow}
-use Rattle.ss_grammar_programs.specs.Grammar.{TypeFrom, FullType, Fields, Method, Constructor, FieldsOrMethod, Typed, KindBehind, MemberKind}
+use Rattle.ss_grammar_programs.specs.Grammar.{TypeFrom, FullType, Fields, Method, Constructor, FieldsOrMethod, Typed, KindAfter, MemberKind}
 use Rattle.ss_grammar_programs.specs.Written.{IsFields, IsTypedMethod, Plainly, fields, invariant, void_method, typed_method, constructor}
 
 abbrev token_at : Place → Kind → Piece
@@ -27,7 +27,7 @@ choice f L M [] v p = inr p
 choice f L M (t ∷ ts) v p = chosen (f t) L M (t ∷ ts) v p
 
 module _ (d : ℕ) where
-  -- behind the first token of a type
+  -- after the first token of a type
   typed : (p : Place) (c : Kind) (h : TypeHead) (ts : List Piece) (k : MemberKindTree) → ((us : List Piece) → TypeFrom d h us ≡ After (type_head (token_at p c)) (TypeFrom d) us) → Typed d h ts k → Plainly d (token_at p c ∷ ts) k
   typed p c h ts k e q = at (choice fields_follow (Fields d q.first q.goes_on.first) (Method d (Some q.first) q.goes_on.first) q.goes_on.back k q.goes_on.goes_on)
     where
@@ -38,7 +38,7 @@ module _ (d : ℕ) where
       at (inl r) = fields (record { first = q.first; front = token_at p c ∷ q.front; back = q.back; parts = ap (λ us. token_at p c ∷ us) q.parts; reads = first; goes_on = record { first = q.goes_on.first; front = q.goes_on.front; back = q.goes_on.back; parts = q.goes_on.parts; reads = q.goes_on.reads; goes_on = r } })
       at (inr r) = typed_method (record { first = q.first; front = token_at p c ∷ q.front; back = q.back; parts = ap (λ us. token_at p c ∷ us) q.parts; reads = first; goes_on = record { first = q.goes_on.first; front = q.goes_on.front; back = q.goes_on.back; parts = q.goes_on.parts; reads = q.goes_on.reads; goes_on = r } })
 
-  of_word : (p : Place) (w : Word) (ts : List Piece) (k : MemberKindTree) → After (head_kind p (AWord w)) (KindBehind d) ts k → Plainly d (token_at p (AWord w) ∷ ts) k
+  of_word : (p : Place) (w : Word) (ts : List Piece) (k : MemberKindTree) → After (head_kind p (AWord w)) (KindAfter d) ts k → Plainly d (token_at p (AWord w) ∷ ts) k
   of_word p word.Invariant ts k q = invariant q
   of_word p word.Void ts k q = void_method q
   of_word p word.Int ts k q = typed p (AWord word.Int) (record { place = p; name = IntType }) ts k (λ us. refl) q
@@ -53,7 +53,7 @@ module _ (d : ℕ) where
       at (inl r) = typed n.place (AName n.text) (head_of n) ts k (λ us. refl) r
       at (inr r) = constructor (record { first = n; front = token_at n.place (AName n.text) ∷ []; back = ts; parts = refl; reads = (refl, refl); goes_on = r })
 
-  of_kind : (p : Place) (c : Kind) (ts : List Piece) (k : MemberKindTree) → After (head_kind p c) (KindBehind d) ts k → Plainly d (token_at p c ∷ ts) k
+  of_kind : (p : Place) (c : Kind) (ts : List Piece) (k : MemberKindTree) → After (head_kind p c) (KindAfter d) ts k → Plainly d (token_at p c ∷ ts) k
   of_kind p (AWord w) ts k q = of_word p w ts k q
   of_kind p (AName n) ts k q = of_name (record { text = n; place = p }) ts k q
   of_kind p (ASymbol s) ts k q = absurd q

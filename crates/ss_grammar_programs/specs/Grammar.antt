@@ -18,7 +18,7 @@ use Rattle.ss_grammar_statements.specs.Grammar.{Ended, DeclsFrom, Prim, Block}
 use Rattle.ss_grammar_programs.specs.Again.{Again}
 use Rattle.ss_grammar_programs.specs.Heads.{the_end, an_access, member_word, begins_class, MemberHead, InvariantFirst, VoidFirst, WordFirst, NameFirst, member_head, begins_member, type_follows, fields_follow, ClauseHead, RequiresFirst, EnsuresFirst, ModifiesFirst, clause_head}
 
--- behind a token that must come and opens a level; where it is left out the value is a
+-- after a token that must come and opens a level; where it is left out the value is a
 abbrev pub Opening : {A B : Type 0} → (Piece → Option B) → (B → ℕ → List Piece → A → Type 0) → A → ℕ → List Piece → A → Type 0
 Opening f K a d = Held true f (λ b. Inside (K b) d) a
 
@@ -32,8 +32,8 @@ abbrev pub push : {A : Type 0} → List A → A → List A
 push xs x = xs ++ x ∷ []
 
 -- the same, whatever the token before it
-abbrev pub push_behind : {A B : Type 0} → List A → B → A → List A
-push_behind xs _ x = xs ++ x ∷ []
+abbrev pub push_after : {A B : Type 0} → List A → B → A → List A
+push_after xs _ x = xs ++ x ∷ []
 
 -- what leaves no trace
 abbrev pub dropped : {B C : Type 0} → Unit {0} → B → C → Unit {0}
@@ -45,15 +45,15 @@ dropped a _ _ = a
 abbrev pub attribute_at : Place → NameTree → NameTree
 attribute_at p n = record n { place = p }
 
--- Attr = "[" Name "]", and what is behind its `[` at this place
+-- Attr = "[" Name "]", and what is after its `[` at this place
 abbrev pub AttributeEnd : Place → List Piece → NameTree → Type 0
 AttributeEnd p = Bind AnyName (λ n. Take (the symbol.CloseBracket) (λ _. Done (attribute_at p n)))
 
 -- { Attr }
 abbrev pub Attributes : ℕ → List Piece → List NameTree → Type 0
-Attributes d = Many (the symbol.OpenBracket) (λ p. Inside (λ _. AttributeEnd p) d) push_behind []
+Attributes d = Many (the symbol.OpenBracket) (λ p. Inside (λ _. AttributeEnd p) d) push_after []
 
--- Type = ( "int" | "bool" | "object" | Name ) [ "[" "]" ] [ "!" ], behind its first token
+-- Type = ( "int" | "bool" | "object" | Name ) [ "[" "]" ] [ "!" ], after its first token
 abbrev pub TypeFrom : ℕ → TypeHead → List Piece → TypeTree → Type 0
 TypeFrom d t = AtLevel d (TheTypeEnd t)
 
@@ -67,7 +67,7 @@ Parameter d = Bind (Attributes d) (λ xs. Bind (FullType d) (λ t. Bind AnyName 
 
 -- Params = { Attr } Type Name { "," { Attr } Type Name }
 abbrev pub Params : ℕ → List Piece → List ParamTree → Type 0
-Params d = Bind (Parameter d) (λ p. Many (the symbol.Comma) (λ _. Parameter d) push_behind (p ∷ []))
+Params d = Bind (Parameter d) (λ p. Many (the symbol.Comma) (λ _. Parameter d) push_after (p ∷ []))
 
 -- [ Params ] ")"
 abbrev pub ParamsEnd : ℕ → List Piece → List ParamTree → Type 0
@@ -79,7 +79,7 @@ Parameters = Opening (the symbol.Open) (λ _. ParamsEnd) []
 
 -- ---- clauses
 
--- what is read of a term of a `modifies` clause: a path, behind which more may come, or a whole term, which ends with `*`
+-- what is read of a term of a `modifies` clause: a path, after which more may come, or a whole term, which ends with `*`
 pub data Reached : Type 0 where
   Path : ExprTree → Reached
   Whole : ModifiedTree → Reached
@@ -111,15 +111,15 @@ IndexStep d = Choose (is (the symbol.Star)) (Take (the symbol.Star) (λ _. Take 
 abbrev pub CallStep : ℕ → List Piece → Step → Type 0
 CallStep d = Bind (ArgsEnd (Expression d)) (λ es. Done (λ p a. Path (CallOf p a (arguments es))))
 
-abbrev pub StepBehind : ℕ → PostfixHead → List Piece → Step → Type 0
-StepBehind d DotHead = DotStep
-StepBehind d IndexHead = Inside IndexStep d
-StepBehind d CallHead = Inside CallStep d
+abbrev pub StepAfter : ℕ → PostfixHead → List Piece → Step → Type 0
+StepAfter d DotHead = DotStep
+StepAfter d IndexHead = Inside IndexStep d
+StepAfter d CallHead = Inside CallStep d
 
 abbrev pub AnyStep : ℕ → List Piece → Step → Type 0
-AnyStep d = Take postfix_head (StepBehind d)
+AnyStep d = Take postfix_head (StepAfter d)
 
--- behind the beginning a of a term that begins at p
+-- after the beginning a of a term that begins at p
 abbrev pub ModifiedFrom : Place → ExprTree → ℕ → List Piece → ModifiedTree → Type 0
 ModifiedFrom p a d = Bind (Again path_goes (AnyStep d) (stepped p) (Path a)) (λ r. Done (modified r))
 
@@ -129,17 +129,17 @@ Modified d = Here place_at (λ p. Bind (AtDepth Prim d) (λ a. ModifiedFrom p a 
 
 -- Mod { "," Mod }
 abbrev pub Modifies : ℕ → List Piece → List ModifiedTree → Type 0
-Modifies d = Bind (Modified d) (λ m. Many (the symbol.Comma) (λ _. Modified d) push_behind (m ∷ []))
+Modifies d = Bind (Modified d) (λ m. Many (the symbol.Comma) (λ _. Modified d) push_after (m ∷ []))
 
 -- Clause = "requires" Expr ";" | "ensures" Expr ";" | "modifies" Mod { "," Mod } ";"
-abbrev pub ClauseBehind : ℕ → ClauseHead → List Piece → ClauseTree → Type 0
-ClauseBehind d RequiresFirst = Bind (Ended (Expression d)) (λ e. Done (RequiresOf e))
-ClauseBehind d EnsuresFirst = Bind (Ended (Expression d)) (λ e. Done (EnsuresOf e))
-ClauseBehind d ModifiesFirst = Bind (Ended (Modifies d)) (λ ms. Done (ModifiesOf ms))
+abbrev pub ClauseAfter : ℕ → ClauseHead → List Piece → ClauseTree → Type 0
+ClauseAfter d RequiresFirst = Bind (Ended (Expression d)) (λ e. Done (RequiresOf e))
+ClauseAfter d EnsuresFirst = Bind (Ended (Expression d)) (λ e. Done (EnsuresOf e))
+ClauseAfter d ModifiesFirst = Bind (Ended (Modifies d)) (λ ms. Done (ModifiesOf ms))
 
 -- { Clause }
 abbrev pub Clauses : ℕ → List Piece → List ClauseTree → Type 0
-Clauses d = Many clause_head (ClauseBehind d) push_behind []
+Clauses d = Many clause_head (ClauseAfter d) push_after []
 
 -- { Clause } Block
 abbrev pub Specified : ℕ → List Piece → List ClauseTree × BlockTree → Type 0
@@ -147,11 +147,11 @@ Specified d = Bind (Clauses d) (λ cs. Bind (Block d) (λ b. Done (cs, b)))
 
 -- ---- members
 
--- Decls ";", behind the type and the first name
+-- Decls ";", after the type and the first name
 abbrev pub Fields : ℕ → TypeTree → NameTree → List Piece → MemberKindTree → Type 0
 Fields d t n = Bind (Ended (AtDepth (λ o V. DeclsFrom o V n) d)) (λ cs. Done (FieldsOf (record { ty = t; declarators = cs })))
 
--- Method = ( "void" | Type ) Name "(" [ Params ] ")" { Clause } Block, behind the name
+-- Method = ( "void" | Type ) Name "(" [ Params ] ")" { Clause } Block, after the name
 abbrev pub Method : ℕ → Option TypeTree → NameTree → List Piece → MemberKindTree → Type 0
 Method d t n = Bind (Parameters d) (λ ps. Bind (Specified d) (λ c. Done (MethodOf t n ps c.0 c.1)))
 
@@ -166,27 +166,27 @@ BaseEnd p d = Bind (ArgsEnd (Expression d)) (λ es. Done (base_call p es))
 abbrev pub BaseCall : ℕ → List Piece → Option BaseCallTree → Type 0
 BaseCall d = Maybe (the symbol.Colon) (λ _. Take (the_word word.Base) (λ p. Opening (the symbol.Open) (λ _. BaseEnd p) (base_call p []) d)) None
 
--- Ctor = Name "(" [ Params ] ")" [ ":" "base" "(" [ Args ] ")" ] { Clause } Block, behind the name
+-- Ctor = Name "(" [ Params ] ")" [ ":" "base" "(" [ Args ] ")" ] { Clause } Block, after the name
 abbrev pub Constructor : ℕ → NameTree → List Piece → MemberKindTree → Type 0
 Constructor d n = Bind (Parameters d) (λ ps. Bind (BaseCall d) (λ b. Bind (Specified d) (λ c. Done (ConstructorOf n ps b c.0 c.1))))
 
--- behind a type and a name
+-- after a type and a name
 abbrev pub FieldsOrMethod : ℕ → TypeTree → NameTree → List Piece → MemberKindTree → Type 0
 FieldsOrMethod d t n = Choose fields_follow (Fields d t n) (Method d (Some t) n)
 
--- behind the first token of a type
+-- after the first token of a type
 abbrev pub Typed : ℕ → TypeHead → List Piece → MemberKindTree → Type 0
 Typed d t = Bind (TypeFrom d t) (λ y. Bind AnyName (FieldsOrMethod d y))
 
 -- Type Decls ";" | "invariant" Expr ";" | Method | Ctor
-abbrev pub KindBehind : ℕ → MemberHead → List Piece → MemberKindTree → Type 0
-KindBehind d InvariantFirst = Bind (Ended (Expression d)) (λ e. Done (InvariantOf e))
-KindBehind d VoidFirst = Bind AnyName (Method d None)
-KindBehind d (WordFirst t) = Typed d t
-KindBehind d (NameFirst n) = Choose type_follows (Typed d (head_of n)) (Constructor d n)
+abbrev pub KindAfter : ℕ → MemberHead → List Piece → MemberKindTree → Type 0
+KindAfter d InvariantFirst = Bind (Ended (Expression d)) (λ e. Done (InvariantOf e))
+KindAfter d VoidFirst = Bind AnyName (Method d None)
+KindAfter d (WordFirst t) = Typed d t
+KindAfter d (NameFirst n) = Choose type_follows (Typed d (head_of n)) (Constructor d n)
 
 abbrev pub MemberKind : ℕ → List Piece → MemberKindTree → Type 0
-MemberKind d = Take member_head (KindBehind d)
+MemberKind d = Take member_head (KindAfter d)
 
 abbrev pub join_word : List Modifier → Option Modifier → List Modifier
 join_word ms None = ms

@@ -78,7 +78,7 @@ begins_class LeftOut = false
 
 -- ---- members
 
--- behind its attributes and words a member begins with one of these: `invariant`, `void`, a type's word, or a name, with which
+-- after its attributes and words a member begins with one of these: `invariant`, `void`, a type's word, or a name, with which
 -- a type or a constructor begins
 pub data MemberHead : Type 0 where
   InvariantFirst : MemberHead
@@ -143,7 +143,7 @@ type_kind (ASymbol s) = type_symbol s
 type_kind (AName n) = true
 type_kind _ = false
 
--- behind a name: whether the name begins a type
+-- after a name: whether the name begins a type
 abbrev pub type_follows : Piece → Bool
 type_follows (AToken t) = type_kind t.kind
 type_follows LeftOut = false
@@ -158,7 +158,7 @@ abbrev pub fields_kind : Kind → Bool
 fields_kind (ASymbol s) = fields_symbol s
 fields_kind _ = false
 
--- behind a type and a name: whether the name is that of a field
+-- after a type and a name: whether the name is that of a field
 abbrev pub fields_follow : Piece → Bool
 fields_follow (AToken t) = fields_kind t.kind
 fields_follow LeftOut = false

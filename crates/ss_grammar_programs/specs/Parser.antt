@@ -15,7 +15,7 @@ use Rattle.ss_grammar_expressions.specs.Parser.{Gets, give, below, opened, held,
 use Rattle.ss_grammar_statements.specs.Parser.{ended, decls_from, prim, block}
 use Rattle.ss_grammar_programs.specs.Again.{again}
 use Rattle.ss_grammar_programs.specs.Heads.{the_end, an_access, member_word, begins_class, MemberHead, InvariantFirst, VoidFirst, WordFirst, NameFirst, member_head, begins_member, type_follows, fields_follow, ClauseHead, RequiresFirst, EnsuresFirst, ModifiesFirst, clause_head}
-use Rattle.ss_grammar_programs.specs.Grammar.{push, push_behind, dropped, attribute_at, Reached, Path, Whole, path_goes, Step, stepped, modified, base_call, join_word}
+use Rattle.ss_grammar_programs.specs.Grammar.{push, push_after, dropped, attribute_at, Reached, Path, Whole, path_goes, Step, stepped, modified, base_call, join_word}
 
 -- an expression at depth d
 abbrev pub expression : ℕ → Gets ExprTree
@@ -30,12 +30,12 @@ inner_expression d = below d TheExpression
 unfoldable pub attribute_end : Place → Gets NameTree
 attribute_end p ts = name_at ts >>= λ n. take (the symbol.CloseBracket) (λ _. give (attribute_at p n.0)) n.1
 
--- behind a `[`
+-- after a `[`
 abbrev pub attribute : ℕ → Place × Piece → Gets NameTree
 attribute d x = opened true d (attribute_end x.0) x.1
 
 unfoldable pub attributes : ℕ → Gets (List NameTree)
-attributes d ts = times (tokened (the symbol.OpenBracket)) (attribute d) push_behind (length ts) [] ts
+attributes d ts = times (tokened (the symbol.OpenBracket)) (attribute d) push_after (length ts) [] ts
 
 unfoldable pub full_type : ℕ → Gets TypeTree
 full_type d = take type_head (type_end d)
@@ -44,7 +44,7 @@ unfoldable pub parameter : ℕ → Gets ParamTree
 parameter d ts = attributes d ts >>= λ xs. full_type d xs.1 >>= λ t. name_at t.1 >>= λ n. Ok (record { attributes = xs.0; ty = t.0; name = n.0 }, n.1)
 
 unfoldable pub params : ℕ → Gets (List ParamTree)
-params d ts = parameter d ts >>= λ p. times (the symbol.Comma) (λ _. parameter d) push_behind (length p.1) (p.0 ∷ []) p.1
+params d ts = parameter d ts >>= λ p. times (the symbol.Comma) (λ _. parameter d) push_after (length p.1) (p.0 ∷ []) p.1
 
 unfoldable pub some_params : ℕ → Gets (List ParamTree)
 some_params d ts = params d ts >>= λ ps. take (the symbol.Close) (λ _. give ps.0) ps.1
@@ -78,14 +78,14 @@ index_step d = choose (is (the symbol.Star)) elements_step (element_step d)
 unfoldable pub call_step : ℕ → Gets Step
 call_step d ts = args_end (inner_expression d) ts >>= λ es. Ok ((λ p a. Path (CallOf p a (arguments es.0))), es.1)
 
--- behind `.`, `[` and `(`
-unfoldable pub step_behind : ℕ → PostfixHead → Gets Step
-step_behind d DotHead ts = dot_step ts
-step_behind d IndexHead ts = index_step d ts
-step_behind d CallHead ts = call_step d ts
+-- after `.`, `[` and `(`
+unfoldable pub step_after : ℕ → PostfixHead → Gets Step
+step_after d DotHead ts = dot_step ts
+step_after d IndexHead ts = index_step d ts
+step_after d CallHead ts = call_step d ts
 
 unfoldable pub step : ℕ → Gets Step
-step d = take (tokened postfix_head) (λ x. opened (postfix_opens x.0) d (step_behind d x.0) x.1)
+step d = take (tokened postfix_head) (λ x. opened (postfix_opens x.0) d (step_after d x.0) x.1)
 
 unfoldable pub steps : Place → ℕ → ExprTree → Gets Reached
 steps p d a ts = again path_goes (step d) (stepped p) (length ts) (Path a) ts
@@ -97,15 +97,15 @@ unfoldable pub modified_term : ℕ → Gets ModifiedTree
 modified_term d = here place_at (λ p ts. prim d (below d) ts >>= λ a. modified_from p d a.0 a.1)
 
 unfoldable pub modifies : ℕ → Gets (List ModifiedTree)
-modifies d ts = modified_term d ts >>= λ m. times (the symbol.Comma) (λ _. modified_term d) push_behind (length m.1) (m.0 ∷ []) m.1
+modifies d ts = modified_term d ts >>= λ m. times (the symbol.Comma) (λ _. modified_term d) push_after (length m.1) (m.0 ∷ []) m.1
 
-unfoldable pub clause_behind : ℕ → ClauseHead → Gets ClauseTree
-clause_behind d RequiresFirst ts = ended (expression d) ts >>= λ e. Ok (RequiresOf e.0, e.1)
-clause_behind d EnsuresFirst ts = ended (expression d) ts >>= λ e. Ok (EnsuresOf e.0, e.1)
-clause_behind d ModifiesFirst ts = ended (modifies d) ts >>= λ ms. Ok (ModifiesOf ms.0, ms.1)
+unfoldable pub clause_after : ℕ → ClauseHead → Gets ClauseTree
+clause_after d RequiresFirst ts = ended (expression d) ts >>= λ e. Ok (RequiresOf e.0, e.1)
+clause_after d EnsuresFirst ts = ended (expression d) ts >>= λ e. Ok (EnsuresOf e.0, e.1)
+clause_after d ModifiesFirst ts = ended (modifies d) ts >>= λ ms. Ok (ModifiesOf ms.0, ms.1)
 
 unfoldable pub clauses : ℕ → Gets (List ClauseTree)
-clauses d ts = times clause_head (clause_behind d) push_behind (length ts) [] ts
+clauses d ts = times clause_head (clause_after d) push_after (length ts) [] ts
 
 unfoldable pub specified : ℕ → Gets (List ClauseTree × BlockTree)
 specified d ts = clauses d ts >>= λ cs. block d cs.1 >>= λ b. Ok ((cs.0, b.0), b.1)
@@ -121,11 +121,11 @@ method d t n ts = parameters d ts >>= λ ps. specified d ps.1 >>= λ c. Ok (Meth
 unfoldable pub base_end : Place → ℕ → Gets (Option BaseCallTree)
 base_end p d ts = args_end (inner_expression d) ts >>= λ es. Ok (base_call p es.0, es.1)
 
-unfoldable pub base_behind : ℕ → Place → Gets (Option BaseCallTree)
-base_behind d p = take (tokened (or_left_out (the symbol.Open))) (held d (λ _. base_end p d) (base_call p []))
+unfoldable pub base_after : ℕ → Place → Gets (Option BaseCallTree)
+base_after d p = take (tokened (or_left_out (the symbol.Open))) (held d (λ _. base_end p d) (base_call p []))
 
 unfoldable pub base : ℕ → Gets (Option BaseCallTree)
-base d = maybe (the symbol.Colon) (λ _. take (the_word word.Base) (base_behind d)) None
+base d = maybe (the symbol.Colon) (λ _. take (the_word word.Base) (base_after d)) None
 
 unfoldable pub constructor : ℕ → NameTree → Gets MemberKindTree
 constructor d n ts = parameters d ts >>= λ ps. base d ps.1 >>= λ b. specified d b.1 >>= λ c. Ok (ConstructorOf n ps.0 b.0 c.0.0 c.0.1, c.1)
@@ -142,14 +142,14 @@ void_method d ts = name_at ts >>= λ n. method d None n.0 n.1
 unfoldable pub name_first : ℕ → NameTree → Gets MemberKindTree
 name_first d n = choose type_follows (typed d (head_of n)) (constructor d n)
 
-unfoldable pub kind_behind : ℕ → MemberHead → Gets MemberKindTree
-kind_behind d InvariantFirst ts = ended (expression d) ts >>= λ e. Ok (InvariantOf e.0, e.1)
-kind_behind d VoidFirst ts = void_method d ts
-kind_behind d (WordFirst t) ts = typed d t ts
-kind_behind d (NameFirst n) ts = name_first d n ts
+unfoldable pub kind_after : ℕ → MemberHead → Gets MemberKindTree
+kind_after d InvariantFirst ts = ended (expression d) ts >>= λ e. Ok (InvariantOf e.0, e.1)
+kind_after d VoidFirst ts = void_method d ts
+kind_after d (WordFirst t) ts = typed d t ts
+kind_after d (NameFirst n) ts = name_first d n ts
 
 unfoldable pub member_kind : ℕ → Gets MemberKindTree
-member_kind d = take member_head (kind_behind d)
+member_kind d = take member_head (kind_after d)
 
 unfoldable pub words : Gets (List Modifier)
 words ts = again (λ _. is member_word) (take member_word give) join_word (length ts) [] ts

@@ -7,9 +7,9 @@ use Rattle.ss_ast.specs.Expressions.{ExprTree}
 use Rattle.ss_ast.specs.Statements.{ForInitTree, DeclareFirst, SimpleFirst, StmtTree, IfElseOf, ExposeOf, EmptyOf}
 use Rattle.ss_grammar.specs.Language.{Done, After, Take, Bind}
 use Rattle.ss_grammar_expressions.specs.Heads.{Piece, or_left_out, the, the_word}
-use Rattle.ss_grammar_expressions.specs.Grammar.{TheExpression, Parts, NoParts, AtLevel, Deeper, HeldBehind, ParenEnd}
+use Rattle.ss_grammar_expressions.specs.Grammar.{TheExpression, Parts, NoParts, AtLevel, Deeper, HeldAfter, ParenEnd}
 use Rattle.ss_grammar_statements.specs.Heads.{StmtHead, BlockFirst, StartFirst, IfFirst, WhileFirst, ForFirst, ReturnFirst, AssertFirst, AssumeFirst, ExposeFirst, EmptyFirst, other_head}
-use Rattle.ss_grammar_statements.specs.Grammar.{TheGoverned, Nests, NoNests, NestedAt, statement_of, open_if, InnerBlock, Governed, ElseEnd, IfEnd, WhileEnd, ForEnd, ExposeEnd, StmtBehind}
+use Rattle.ss_grammar_statements.specs.Grammar.{TheGoverned, Nests, NoNests, NestedAt, statement_of, open_if, InnerBlock, Governed, ElseEnd, IfEnd, WhileEnd, ForEnd, ExposeEnd, StmtAfter}
 
 -- whether the first side could have the `else` too
 abbrev far : StmtTree → Bool
@@ -34,10 +34,10 @@ near_deeper : (o : Bool) (L : List Piece → StmtTree → Type 0) → Near L →
 near_deeper true L r ts v p = r ts v p
 near_deeper false L r ts v p = absurd p
 
-near_held : (o : Bool) (p : Place) (L : List Piece → StmtTree → Type 0) → Near L → Near (Take (or_left_out (the symbol.Open)) (HeldBehind o (λ _. L) (EmptyOf p)))
-near_held o p L r = near_take (or_left_out (the symbol.Open)) (HeldBehind o (λ _. L) (EmptyOf p)) each
+near_held : (o : Bool) (p : Place) (L : List Piece → StmtTree → Type 0) → Near L → Near (Take (or_left_out (the symbol.Open)) (HeldAfter o (λ _. L) (EmptyOf p)))
+near_held o p L r = near_take (or_left_out (the symbol.Open)) (HeldAfter o (λ _. L) (EmptyOf p)) each
   where
-    each : (x : Option Place) → Near (HeldBehind o (λ _. L) (EmptyOf p) x)
+    each : (x : Option Place) → Near (HeldAfter o (λ _. L) (EmptyOf p) x)
     each None ts v q = ap far q.1
     each (Some b) ts v q = near_deeper o L r ts v q
 
@@ -64,10 +64,10 @@ module _ (V : Parts) (W : Nests) where
   expose_near p ts v q = near_take (the symbol.Close) (λ _. Bind (InnerBlock V W) (λ b. Done (ExposeOf p q.first q.goes_on.first b))) (λ _ ts v r. ap far r.goes_on.1) q.goes_on.back v q.goes_on.goes_on
 
 module _ (o : Bool) (V : Parts) (W : Nests) where
-  stmt_near : (h : StmtHead) → Near (StmtBehind o V W h)
+  stmt_near : (h : StmtHead) → Near (StmtAfter o V W h)
   stmt_near (BlockFirst p) ts v q = at o q
     where
-      at : (o : Bool) → StmtBehind o V W (BlockFirst p) ts v → far v ≡ false
+      at : (o : Bool) → StmtAfter o V W (BlockFirst p) ts v → far v ≡ false
       at true r = ap far r.goes_on.1
       at false r = absurd r
   stmt_near (StartFirst h) ts v q = near_take (the symbol.Semicolon) (λ _. Done (statement_of q.first)) (λ _ ts v r. ap far r.1 ∙ started_near q.first) q.back v q.goes_on
@@ -81,5 +81,5 @@ module _ (o : Bool) (V : Parts) (W : Nests) where
   stmt_near (EmptyFirst p) ts v q = ap far q.1
 
 pub nearest : (d : ℕ) (ts : List Piece) (p : Place) (e : ExprTree) (a b : StmtTree) → NestedAt d TheGoverned ts (IfElseOf p e a b) → open_if a ≡ false
-nearest zero ts p e a b q = near_take other_head (StmtBehind false NoParts NoNests) (stmt_near false NoParts NoNests) ts (IfElseOf p e a b) q
-nearest (suc d) ts p e a b q = near_take other_head (StmtBehind true (AtLevel d) (NestedAt d)) (stmt_near true (AtLevel d) (NestedAt d)) ts (IfElseOf p e a b) q
+nearest zero ts p e a b q = near_take other_head (StmtAfter false NoParts NoNests) (stmt_near false NoParts NoNests) ts (IfElseOf p e a b) q
+nearest (suc d) ts p e a b q = near_take other_head (StmtAfter true (AtLevel d) (NestedAt d)) (stmt_near true (AtLevel d) (NestedAt d)) ts (IfElseOf p e a b) q

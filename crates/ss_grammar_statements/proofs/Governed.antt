@@ -1,4 +1,4 @@
--- Reading what stands behind the `(` of a statement finds what the grammar says, and an `else` has the nearest `if`.
+-- Reading what stands after the `(` of a statement finds what the grammar says, and an `else` has the nearest `if`.
 use Rattle.std.proofs.Common.{◌≡◌, ℕ, zero, suc, List, [], ◌∷◌, Option, Some, None, Ok, Bool, true, false, refl, sym, ap}
 use Rattle.std.specs.Prelude.{◌||◌, ◌&&◌}
 use Rattle.std.proofs.lemmas.List.{append-nil}
@@ -24,8 +24,8 @@ use Rattle.ss_grammar_expressions.proofs.Sets.{code, In, subset_in, disjoint, di
 use Rattle.ss_grammar_expressions.proofs.Levels.{may_open, the_in, the_word_in, of, symbol}
 use Rattle.ss_grammar_expressions.proofs.Pieces.{unary_first, expr_goes}
 use Rattle.ss_grammar_expressions.proofs.Expressions.{inner_parts, inner_readers, paren_end_to, name_to}
-use Rattle.ss_grammar_statements.specs.Grammar.{Ended, Nest, TheStatements, TheGoverned, TheHeading, HeadingTree, Nested, Nests, NoNests, open_if, BlockBehind, InnerBlock, Governed, ElseEnd, IfEnd, Invariants, WhileEnd, ForEnd, AtEnd, ExposeEnd}
-use Rattle.ss_grammar_statements.specs.Parser.{Nesting, no_nesting, ended, block_behind, inner_block, in_block, governed, other_side, else_end, if_end, invariants, while_body, while_end, for_body, for_end, at_end, expose_body, expose_end}
+use Rattle.ss_grammar_statements.specs.Grammar.{Ended, Nest, TheStatements, TheGoverned, TheHeading, HeadingTree, Nested, Nests, NoNests, open_if, BlockAfter, InnerBlock, Governed, ElseEnd, IfEnd, Invariants, WhileEnd, ForEnd, AtEnd, ExposeEnd}
+use Rattle.ss_grammar_statements.specs.Parser.{Nesting, no_nesting, ended, block_after, inner_block, in_block, governed, other_side, else_end, if_end, invariants, while_body, while_end, for_body, for_end, at_end, expose_body, expose_end}
 use Rattle.ss_grammar_statements.proofs.Pieces.{start_first, stmt_first, other_first}
 use Rattle.ss_grammar_statements.proofs.Parts.{perhaps, ended_to}
 use Rattle.ss_grammar_statements.proofs.Open.{never_open, same_ends, choose_ends, made_ends, both_ends, tailed_ends}
@@ -80,13 +80,13 @@ module _ (n : ℕ) (U : (i : Part) → ℕ → List Piece → Value i → Type 0
 
   -- ---- blocks
 
-  pub block_behind_to : (p : Place) → PartOf n (λ d. BlockBehind (V d) (X d) p) list_first [] false (λ d. block_behind (suc d) (w d) (x d) p)
-  unfolding block_behind
-  block_behind_to p = to_as n (W TheStatements) (In list_first) (In []) (s TheStatements) (λ b. BlockOf p b.statements b.end) lists
+  pub block_after_to : (p : Place) → PartOf n (λ d. BlockAfter (V d) (X d) p) list_first [] false (λ d. block_after (suc d) (w d) (x d) p)
+  unfolding block_after
+  block_after_to p = to_as n (W TheStatements) (In list_first) (In []) (s TheStatements) (λ b. BlockOf p b.statements b.end) lists
 
   inner_block_to : PartOf n (λ d. InnerBlock (V d) (X d)) (13 ∷ []) [] false (λ d. inner_block (suc d) (w d) (x d))
   unfolding inner_block
-  inner_block_to = symbol n symbol.OpenBrace (λ p d. BlockBehind (V d) (X d) p) list_first [] false (λ p d. block_behind (suc d) (w d) (x d) p) refl block_behind_to
+  inner_block_to = symbol n symbol.OpenBrace (λ p d. BlockAfter (V d) (X d) p) list_first [] false (λ p d. block_after (suc d) (w d) (x d) p) refl block_after_to
 
   abbrev Blocks : ℕ → List Piece → StmtTree → Type 0
   Blocks d = Bind (InnerBlock (V d) (X d)) (λ b. Done (InBlock b))

@@ -33,25 +33,25 @@ module _ (V : Parts) (kv : (i : Part) → Kept (V i)) (o : Bool) where
   declared : (t : TypeTree) → Kept (grammar.Declared o V t)
   declared t = kept_bind _ _ (kept_bind _ _ any_name decls_from) (λ cs. kept_done _)
 
-  prim_behind : (h : PrimHead) → Kept (grammar.PrimBehind o V h)
-  prim_behind (ParenPrim p) = kept_deeper o _ (kept_bind _ _ (paren_end (V TheExpression) (kv TheExpression)) (λ e. kept_done _))
-  prim_behind (LeafPrim p e) = kept_done e
-  prim_behind (OldPrim p) = old V kv o p
-  prim_behind (NewPrim p) = new V kv o p
-  prim_behind (QuantifierPrim p q) = quantified V kv o p q
+  prim_after : (h : PrimHead) → Kept (grammar.PrimAfter o V h)
+  prim_after (ParenPrim p) = kept_deeper o _ (kept_bind _ _ (paren_end (V TheExpression) (kv TheExpression)) (λ e. kept_done _))
+  prim_after (LeafPrim p e) = kept_done e
+  prim_after (OldPrim p) = old V kv o p
+  prim_after (NewPrim p) = new V kv o p
+  prim_after (QuantifierPrim p q) = quantified V kv o p q
 
-  post_behind : (h : PrimHead) → Kept (grammar.PostBehind o V h)
-  post_behind h = kept_bind _ _ (prim_behind h) (λ a. postfixes V kv o (prim_place h) a)
+  post_after : (h : PrimHead) → Kept (grammar.PostAfter o V h)
+  post_after h = kept_bind _ _ (prim_after h) (λ a. postfixes V kv o (prim_place h) a)
 
   post : Kept (grammar.Post o V)
-  post = kept_take _ _ (knows prim_head (λ p. refl)) post_behind
+  post = kept_take _ _ (knows prim_head (λ p. refl)) post_after
 
-  simple_behind : (a : ExprTree) (h : SimpleHead) → Kept (grammar.SimpleBehind o V a h)
-  simple_behind a (AssignHead op) = kept_bind _ _ (whole_expression V kv o) (λ e. kept_done _)
-  simple_behind a (StepHead op) = kept_done _
+  simple_after : (a : ExprTree) (h : SimpleHead) → Kept (grammar.SimpleAfter o V a h)
+  simple_after a (AssignHead op) = kept_bind _ _ (whole_expression V kv o) (λ e. kept_done _)
+  simple_after a (StepHead op) = kept_done _
 
   simple_end : (a : ExprTree) → Kept (grammar.SimpleEnd o V a)
-  simple_end a = kept_maybe _ _ _ (knows simple_head (λ p. refl)) (simple_behind a)
+  simple_end a = kept_maybe _ _ _ (knows simple_head (λ p. refl)) (simple_after a)
 
   simple : Kept (grammar.Simple o V)
   simple = kept_bind _ _ post simple_end
@@ -65,28 +65,28 @@ module _ (V : Parts) (kv : (i : Part) → Kept (V i)) (o : Bool) where
   element_or_array : (n : NameTree) → Kept (grammar.ElementOrArray o V n)
   element_or_array n = kept_choose _ _ _ (kept_take _ _ (knows_symbol symbol.CloseBracket) (λ _. kept_bind _ _ bang_end (λ s. declared _))) (kept_bind _ _ (index_end (V TheExpression) (kv TheExpression)) (λ i. simple_from n.place _))
 
-  next_behind : (n : NameTree) (h : NextHead) → Kept (grammar.NextBehind o V n h)
+  next_behind : (n : NameTree) (h : NextHead) → Kept (grammar.NextAfter o V n h)
   next_behind n (NextName m) = kept_bind _ _ (decls_from m) (λ cs. kept_done _)
   next_behind n NextBang = declared _
   next_behind n NextBracket = kept_deeper o _ (element_or_array n)
 
-  name_behind : (n : NameTree) → Kept (grammar.NameBehind o V n)
-  name_behind n = kept_choose _ _ _ (kept_take _ _ (knows next_head (λ p. refl)) (next_behind n)) (simple_from n.place _)
+  name_after : (n : NameTree) → Kept (grammar.NameAfter o V n)
+  name_after n = kept_choose _ _ _ (kept_take _ _ (knows next_head (λ p. refl)) (next_behind n)) (simple_from n.place _)
 
-  start_behind : (h : StartHead) → Kept (grammar.StartBehind o V h)
-  start_behind (TypeFirst t) = kept_bind _ _ (type_end o t) declared
-  start_behind (NameFirst n) = name_behind n
-  start_behind (PrimFirst h) = kept_bind _ _ (post_behind h) simple_then
+  start_after : (h : StartHead) → Kept (grammar.StartAfter o V h)
+  start_after (TypeFirst t) = kept_bind _ _ (type_end o t) declared
+  start_after (NameFirst n) = name_after n
+  start_after (PrimFirst h) = kept_bind _ _ (post_after h) simple_then
 
   for_init : Kept (grammar.ForInit o V)
-  for_init = kept_take _ _ (knows start_head (λ p. refl)) start_behind
+  for_init = kept_take _ _ (knows start_head (λ p. refl)) start_after
 
 module _ (V : Parts) (kv : (i : Part) → Kept (V i)) (W : Nests) (kw : (i : Nest) → Kept (W i)) where
-  block_behind : (p : Place) → Kept (grammar.BlockBehind V W p)
-  block_behind p = kept_bind _ _ (kw TheStatements) (λ b. kept_done _)
+  block_after : (p : Place) → Kept (grammar.BlockAfter V W p)
+  block_after p = kept_bind _ _ (kw TheStatements) (λ b. kept_done _)
 
   inner_block : Kept (grammar.InnerBlock V W)
-  inner_block = kept_take _ _ (knows_symbol symbol.OpenBrace) block_behind
+  inner_block = kept_take _ _ (knows_symbol symbol.OpenBrace) block_after
 
   governed : Kept (grammar.Governed V W)
   governed = kept_choose _ _ _ (kept_bind _ _ inner_block (λ b. kept_done _)) (kw TheGoverned)
@@ -114,25 +114,25 @@ module _ (V : Parts) (kv : (i : Part) → Kept (V i)) (W : Nests) (kw : (i : Nes
   expose_end p = kept_bind _ _ (kv TheExpression) (λ e. kept_bind _ _ at_end (λ n. kept_take _ _ (knows_symbol symbol.Close) (λ _. kept_bind _ _ inner_block (λ b. kept_done _))))
 
   module _ (o : Bool) where
-    stmt_behind : (h : StmtHead) → Kept (grammar.StmtBehind o V W h)
-    stmt_behind (BlockFirst p) = kept_deeper o _ (kept_bind _ _ (block_behind p) (λ b. kept_done _))
-    stmt_behind (StartFirst h) = kept_bind _ _ (start_behind V kv o h) (λ i. closing symbol.Semicolon _)
-    stmt_behind (IfFirst p) = kept_held o (the symbol.Open) (λ _. grammar.IfEnd V W p) (EmptyOf p) (knows (or_left_out (the symbol.Open)) (λ p. refl)) (λ _. if_end p)
-    stmt_behind (WhileFirst p) = kept_held o (the symbol.Open) (λ _. grammar.WhileEnd V W p) (EmptyOf p) (knows (or_left_out (the symbol.Open)) (λ p. refl)) (λ _. while_end p)
-    stmt_behind (ForFirst p) = kept_held o (the symbol.Open) (λ _. grammar.ForEnd V W p) (EmptyOf p) (knows (or_left_out (the symbol.Open)) (λ p. refl)) (λ _. for_end p)
-    stmt_behind (ReturnFirst p) = kept_bind _ _ (optional symbol.Semicolon _ (whole_expression V kv o)) (λ e. kept_done _)
-    stmt_behind (AssertFirst p) = kept_bind _ _ (ended _ (whole_expression V kv o)) (λ e. kept_done _)
-    stmt_behind (AssumeFirst p) = kept_bind _ _ (ended _ (whole_expression V kv o)) (λ e. kept_done _)
-    stmt_behind (ExposeFirst p) = kept_held o (the symbol.Open) (λ _. grammar.ExposeEnd V W p) (EmptyOf p) (knows (or_left_out (the symbol.Open)) (λ p. refl)) (λ _. expose_end p)
-    stmt_behind (EmptyFirst p) = kept_done _
+    stmt_after : (h : StmtHead) → Kept (grammar.StmtAfter o V W h)
+    stmt_after (BlockFirst p) = kept_deeper o _ (kept_bind _ _ (block_after p) (λ b. kept_done _))
+    stmt_after (StartFirst h) = kept_bind _ _ (start_after V kv o h) (λ i. closing symbol.Semicolon _)
+    stmt_after (IfFirst p) = kept_held o (the symbol.Open) (λ _. grammar.IfEnd V W p) (EmptyOf p) (knows (or_left_out (the symbol.Open)) (λ p. refl)) (λ _. if_end p)
+    stmt_after (WhileFirst p) = kept_held o (the symbol.Open) (λ _. grammar.WhileEnd V W p) (EmptyOf p) (knows (or_left_out (the symbol.Open)) (λ p. refl)) (λ _. while_end p)
+    stmt_after (ForFirst p) = kept_held o (the symbol.Open) (λ _. grammar.ForEnd V W p) (EmptyOf p) (knows (or_left_out (the symbol.Open)) (λ p. refl)) (λ _. for_end p)
+    stmt_after (ReturnFirst p) = kept_bind _ _ (optional symbol.Semicolon _ (whole_expression V kv o)) (λ e. kept_done _)
+    stmt_after (AssertFirst p) = kept_bind _ _ (ended _ (whole_expression V kv o)) (λ e. kept_done _)
+    stmt_after (AssumeFirst p) = kept_bind _ _ (ended _ (whole_expression V kv o)) (λ e. kept_done _)
+    stmt_after (ExposeFirst p) = kept_held o (the symbol.Open) (λ _. grammar.ExposeEnd V W p) (EmptyOf p) (knows (or_left_out (the symbol.Open)) (λ p. refl)) (λ _. expose_end p)
+    stmt_after (EmptyFirst p) = kept_done _
 
     production : (i : Nest) → Kept (grammar.Production o V W i)
-    production TheStatements = kept_bind _ _ (kept_many _ _ _ (knows stmt_head (λ p. refl)) stmt_behind []) (λ ss. kept_take _ _ (knows_symbol symbol.CloseBrace) (λ p. kept_done _))
-    production TheGoverned = kept_take _ _ (knows other_head (λ p. refl)) stmt_behind
+    production TheStatements = kept_bind _ _ (kept_many _ _ _ (knows stmt_head (λ p. refl)) stmt_after []) (λ ss. kept_take _ _ (knows_symbol symbol.CloseBrace) (λ p. kept_done _))
+    production TheGoverned = kept_take _ _ (knows other_head (λ p. refl)) stmt_after
     production TheHeading = kept_bind _ _ (optional symbol.Semicolon _ (for_init V kv o)) (λ i. kept_bind _ _ (optional symbol.Semicolon _ (whole_expression V kv o)) (λ e. kept_bind _ _ (optional symbol.Close _ (simple V kv o)) (λ s. kept_done _)))
 
     whole_block : Kept (grammar.WholeBlock o V W)
-    whole_block = kept_held o (the symbol.OpenBrace) (grammar.BlockBehind V W) left_out_block (knows (or_left_out (the symbol.OpenBrace)) (λ p. refl)) block_behind
+    whole_block = kept_held o (the symbol.OpenBrace) (grammar.BlockAfter V W) left_out_block (knows (or_left_out (the symbol.OpenBrace)) (λ p. refl)) block_after
 
 no_nests : (i : Nest) → Kept (grammar.NoNests i)
 no_nests i ts v p = absurd p

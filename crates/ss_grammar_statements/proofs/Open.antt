@@ -57,7 +57,7 @@ module _ {T A B : Type 0} (f : T → Option B) (open_ : A → Bool) where
         record { more = s.more; value = s.value; reads = to d ((u ++ t ∷ []) ++ s.more) s.value s.reads };
   }
 
-  -- a token, and what is behind it
+  -- a token, and what is after it
   module _ {C : Type 0} (h : T → Option C) (L : C → ℕ → List T → A → Type 0) (each : (b : C) → Ends_open f open_ (L b)) where
     after_closed : (o : Option C) (d e : ℕ) (u : List T) (a : A) (t : T) (m : List T) (c : A) → open_ a ≡ false → After o (λ b. L b d) u a → After o (λ b. L b e) (u ++ t ∷ m) c → known (f t) ≡ true → ⊥
     after_closed None d e u a t m c o p q k = p

@@ -1,4 +1,4 @@
--- Reading what stands behind a token, where some tokens open a level: a family of languages for each of them.
+-- Reading what stands after a token, where some tokens open a level: a family of languages for each of them.
 use Rattle.std.proofs.Common.{◌≡◌, ℕ, zero, suc, List, [], ◌∷◌, ◌++◌, length, Option, Some, None, Bool, true, false, refl, sym, subst}
 use Rattle.std.specs.Prelude.{◌||◌}
 use Rattle.ss_grammar.specs.Language.{Take, Many, Starts}

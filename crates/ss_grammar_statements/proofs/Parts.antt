@@ -24,7 +24,7 @@ or_widen true y z i q = or_left y z (i refl)
 or_widen false true z i q = refl
 or_widen false false z i q = q
 
--- a token and what is behind it, or nothing
+-- a token and what is after it, or nothing
 pub perhaps : {A B : Type 0} (n : ℕ) (h : Piece → Option B) (hs : List ℕ) → ((t : Piece) → known (h t) ≡ true → In hs t ≡ true) → (K : B → ℕ → List Piece → A → Type 0) (f g : List ℕ) (e : Bool) (k : B → ℕ → Gets A) → ((b : B) → PartOf n (K b) f g e (k b)) → (a : A) → PartOf n (λ d. Maybe h (λ b. K b d) a) hs (hs ++ g) true (λ d. maybe h (λ b. k b d) a)
 perhaps n h hs sub K f g e k r a = listed n (λ d. Maybe h (λ b. K b d) a) (λ t. known (h t)) (λ t. known (h t) || In g t) hs (hs ++ g) true (λ d. maybe h (λ b. k b d) a) sub
     (λ t q. or_in (code t) hs g true (or_widen (known (h t)) (In hs t) (In g t) (sub t) q))

@@ -15,24 +15,24 @@ use Rattle.ss_grammar_expressions.proofs.Pieces.{unary_first, postfix_set, expr_
 use Rattle.ss_grammar_expressions.proofs.Expressions.{inner_parts, inner_readers, paren_end_to, postfixes_to, old_to, new_to, quantified_to}
 use Rattle.ss_grammar_expressions.proofs.Unaries.{number_piece}
 use Rattle.ss_grammar_statements.specs.Heads.{PrimHead, ParenPrim, LeafPrim, OldPrim, NewPrim, QuantifierPrim, prim_place, prim_head, prim_opens, SimpleHead, AssignHead, StepHead, simple_head}
-use Rattle.ss_grammar_statements.specs.Grammar.{PrimBehind, Prim, PostBehind, Post, SimpleBehind, SimpleEnd, Simple, SimpleThen, SimpleFrom}
-use Rattle.ss_grammar_statements.specs.Parser.{prim_behind, prim, post_behind, post, simple_behind, simple_end, simple, simple_then, simple_from}
+use Rattle.ss_grammar_statements.specs.Grammar.{PrimAfter, Prim, PostAfter, Post, SimpleAfter, SimpleEnd, Simple, SimpleThen, SimpleFrom}
+use Rattle.ss_grammar_statements.specs.Parser.{prim_after, prim, post_after, post, simple_after, simple_end, simple, simple_then, simple_from}
 use Rattle.ss_grammar_statements.proofs.Pieces.{prim_first, prim_in, simple_set, simple_goes, simple_in}
 use Rattle.ss_grammar_statements.proofs.Parts.{perhaps}
 use Rattle.ss_grammar_statements.proofs.Openings.{take_heads}
 
 -- a `(` opens a level
-pub prim_never : (h : PrimHead) → prim_opens h ≡ true → (ts : List Piece) (v : ExprTree) → PrimBehind false NoParts h ts v → ⊥
+pub prim_never : (h : PrimHead) → prim_opens h ≡ true → (ts : List Piece) (v : ExprTree) → PrimAfter false NoParts h ts v → ⊥
 prim_never (ParenPrim p) e ts v q = q
 prim_never (LeafPrim p x) e ts v q = cc
 prim_never (OldPrim p) e ts v q = cc
 prim_never (NewPrim p) e ts v q = cc
 prim_never (QuantifierPrim p k) e ts v q = cc
 
-pub post_never : (h : PrimHead) → prim_opens h ≡ true → (ts : List Piece) (v : ExprTree) → PostBehind false NoParts h ts v → ⊥
+pub post_never : (h : PrimHead) → prim_opens h ≡ true → (ts : List Piece) (v : ExprTree) → PostAfter false NoParts h ts v → ⊥
 post_never h e ts v q = prim_never h e q.front q.first q.reads
 
--- what may stand behind the first token of a path
+-- what may stand after the first token of a path
 abbrev pub prim_set : List ℕ
 prim_set = 36 ∷ 13 ∷ 50 ∷ 51 ∷ 52 ∷ unary_first
 
@@ -47,19 +47,19 @@ module _ (n : ℕ) (U : (i : Part) → ℕ → List Piece → Value i → Type 0
   w d = inner_readers u d
 
   abbrev Prims : PrimHead → ℕ → List Piece → ExprTree → Type 0
-  Prims h d = PrimBehind (may_open d) (V d) h
+  Prims h d = PrimAfter (may_open d) (V d) h
 
   abbrev prims : PrimHead → ℕ → Gets ExprTree
-  prims h d = prim_behind d (w d) h
+  prims h d = prim_after d (w d) h
 
   abbrev Posts : PrimHead → ℕ → List Piece → ExprTree → Type 0
-  Posts h d = PostBehind (may_open d) (V d) h
+  Posts h d = PostAfter (may_open d) (V d) h
 
   abbrev posts : PrimHead → ℕ → Gets ExprTree
-  posts h d = post_behind d (w d) h
+  posts h d = post_after d (w d) h
 
   prim_open : (h : PrimHead) → prim_opens h ≡ true → PartOf n (λ d. Prims h (suc d)) prim_set [] true (λ d. prims h (suc d))
-  unfolding prim_behind
+  unfolding prim_after
   prim_open (ParenPrim p) e = larger n (λ d. Prims (ParenPrim p) (suc d)) unary_first [] prim_set [] true (λ d. prims (ParenPrim p) (suc d)) refl refl
       (may_be_empty n (λ d. Prims (ParenPrim p) (suc d)) unary_first [] false (λ d. prims (ParenPrim p) (suc d))
       (to_as n (λ d. ParenEnd (U TheExpression d)) (In unary_first) (In []) (λ d. paren_end (u TheExpression d)) (λ x. ParenOf p x) (paren_end_to n (U TheExpression) (u TheExpression) inner)))
@@ -72,7 +72,7 @@ module _ (n : ℕ) (U : (i : Part) → ℕ → List Piece → Value i → Type 0
   held h f r = may_be_empty (suc n) (Prims h) f [] false (prims h) r
 
   prim_leaf : (h : PrimHead) → prim_opens h ≡ false → PartOf (suc n) (Prims h) prim_set [] true (prims h)
-  unfolding prim_behind
+  unfolding prim_after
   prim_leaf (ParenPrim p) e = absurd cc
   prim_leaf (LeafPrim p x) e = larger (suc n) (Prims (LeafPrim p x)) [] [] prim_set [] true (prims (LeafPrim p x)) refl refl (done (suc n) x)
   prim_leaf (OldPrim p) e = larger (suc n) (Prims (OldPrim p)) (36 ∷ 15 ∷ []) [] prim_set [] true (prims (OldPrim p)) refl refl (held (OldPrim p) (36 ∷ 15 ∷ []) (old_to n U u inner range_part p))
@@ -92,12 +92,12 @@ module _ (n : ℕ) (U : (i : Part) → ℕ → List Piece → Value i → Type 0
   postfixes_above p a = to_above n (λ d. Postfixes (may_open d) (V d) p a) (In postfix_set) (In postfix_set) true (λ d. postfixes d (w d) p a) (postfixes_to n U u inner range_part p a)
 
   pub post_open : (h : PrimHead) → prim_opens h ≡ true → PartOf n (λ d. Posts h (suc d)) post_set postfix_set true (λ d. posts h (suc d))
-  unfolding post_behind
+  unfolding post_after
   post_open h e = larger n (λ d. Posts h (suc d)) (prim_set ++ postfix_set) (postfix_set ++ []) post_set postfix_set true (λ d. posts h (suc d)) refl refl
       (seq n true true (λ d. Prims h (suc d)) (λ a d. Postfixes true (V (suc d)) (prim_place h) a) prim_set [] postfix_set postfix_set (λ d. prims h (suc d)) (λ a d. postfixes (suc d) (w (suc d)) (prim_place h) a) (prim_open h e) (postfixes_above (prim_place h)) refl)
 
   pub post_leaf : (h : PrimHead) → prim_opens h ≡ false → PartOf (suc n) (Posts h) post_set postfix_set true (posts h)
-  unfolding post_behind
+  unfolding post_after
   post_leaf h e = larger (suc n) (Posts h) (prim_set ++ postfix_set) (postfix_set ++ []) post_set postfix_set true (posts h) refl refl
       (seq (suc n) true true (Prims h) (λ a d. Postfixes (may_open d) (V d) (prim_place h) a) prim_set [] postfix_set postfix_set (prims h) (λ a d. postfixes d (w d) (prim_place h) a) (prim_leaf h e) (postfixes_to n U u inner range_part (prim_place h)) refl)
 
@@ -111,17 +111,17 @@ module _ (n : ℕ) (U : (i : Part) → ℕ → List Piece → Value i → Type 0
   unfolding post
   post_to = take_heads n prim_head prim_first prim_in prim_opens Posts posts post_set postfix_set true post_never post_open post_leaf post_some
 
-  -- ---- what is behind a path
+  -- ---- what is after a path
 
-  simple_behind_to : (a : ExprTree) (h : SimpleHead) → PartOf (suc n) (λ d. SimpleBehind (may_open d) (V d) a h) unary_first expr_goes true (λ d. simple_behind d (w d) a h)
-  unfolding simple_behind
-  simple_behind_to a (AssignHead op) = may_be_empty (suc n) (λ d. SimpleBehind (may_open d) (V d) a (AssignHead op)) unary_first expr_goes false (λ d. simple_behind d (w d) a (AssignHead op))
+  simple_after_to : (a : ExprTree) (h : SimpleHead) → PartOf (suc n) (λ d. SimpleAfter (may_open d) (V d) a h) unary_first expr_goes true (λ d. simple_after d (w d) a h)
+  unfolding simple_after
+  simple_after_to a (AssignHead op) = may_be_empty (suc n) (λ d. SimpleAfter (may_open d) (V d) a (AssignHead op)) unary_first expr_goes false (λ d. simple_after d (w d) a (AssignHead op))
       (to_as (suc n) (λ d. WholeExpression (may_open d) (V d)) (In unary_first) (In expr_goes) (λ d. whole_expression d (w d)) (λ e. AssignOf a op e) whole)
-  simple_behind_to a (StepHead op) = larger (suc n) (λ d. SimpleBehind (may_open d) (V d) a (StepHead op)) [] [] unary_first expr_goes true (λ d. simple_behind d (w d) a (StepHead op)) refl refl (done (suc n) (StepOf a op))
+  simple_after_to a (StepHead op) = larger (suc n) (λ d. SimpleAfter (may_open d) (V d) a (StepHead op)) [] [] unary_first expr_goes true (λ d. simple_after d (w d) a (StepHead op)) refl refl (done (suc n) (StepOf a op))
 
   simple_end_to : (a : ExprTree) → PartOf (suc n) (λ d. SimpleEnd (may_open d) (V d) a) simple_set simple_goes true (λ d. simple_end d (w d) a)
   unfolding simple_end
-  simple_end_to a = perhaps (suc n) simple_head simple_set simple_in (λ h d. SimpleBehind (may_open d) (V d) a h) unary_first expr_goes true (λ h d. simple_behind d (w d) a h) (simple_behind_to a) (AloneOf a)
+  simple_end_to a = perhaps (suc n) simple_head simple_set simple_in (λ h d. SimpleAfter (may_open d) (V d) a h) unary_first expr_goes true (λ h d. simple_after d (w d) a h) (simple_after_to a) (AloneOf a)
 
   pub simple_to : PartOf (suc n) (λ d. Simple (may_open d) (V d)) prim_first simple_goes false (λ d. simple d (w d))
   unfolding simple

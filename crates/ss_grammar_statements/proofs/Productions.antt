@@ -15,7 +15,7 @@ use Rattle.ss_grammar_expressions.specs.Grammar.{Parts, TypeEnd, AnyName, Postfi
 use Rattle.ss_grammar_expressions.proofs.Levels.{may_open}
 use Rattle.ss_grammar_expressions.proofs.Expressions.{inner_parts}
 use Rattle.ss_grammar_statements.specs.Heads.{PrimHead, LeafPrim, prim_of, prim_head, start_head}
-use Rattle.ss_grammar_statements.specs.Grammar.{Declared, PostBehind, Post, SimpleEnd, SimpleThen, SimpleFrom, NameBehind, StartBehind, ForInit}
+use Rattle.ss_grammar_statements.specs.Grammar.{Declared, PostAfter, Post, SimpleEnd, SimpleThen, SimpleFrom, NameAfter, StartAfter, ForInit}
 use Rattle.ss_grammar_statements.specs.Written.{Declaration, Simply, Leveled, Begins, room, declares_names}
 use Rattle.ss_grammar_statements.proofs.Written.{assoc, unassoc, from_done, to_done, take_out, take_back, Exprs}
 use Rattle.ss_grammar_statements.proofs.Told.{typed_name, path_name, name_told, declared_is, begun_is}
@@ -31,10 +31,10 @@ module _ (d : ℕ) where
   Typed h = Bind (TypeEnd (may_open d) h) (Declared (may_open d) V)
 
   abbrev Pathed : PrimHead → List Piece → ForInitTree → Type 0
-  Pathed h = Bind (PostBehind (may_open d) V h) (SimpleThen (may_open d) V)
+  Pathed h = Bind (PostAfter (may_open d) V h) (SimpleThen (may_open d) V)
 
   abbrev Started : Piece → List Piece → ForInitTree → Type 0
-  Started t = After (start_head t) (StartBehind (may_open d) V)
+  Started t = After (start_head t) (StartAfter (may_open d) V)
 
   -- ---- a declaration
 
@@ -96,7 +96,7 @@ module _ (d : ℕ) where
   pathed_kind p AnEnd ts v q = absurd q
 
   from_simple : (ts : List Piece) (v : ForInitTree) → Simply (may_open d) V ts v → ForInit (may_open d) V ts v
-  from_simple ts v p = at ts (take_out prim_head (PostBehind (may_open d) V) (SimpleThen (may_open d) V) ts v (assoc (Post (may_open d) V) (SimpleEnd (may_open d) V) (λ s. Done (SimpleFirst s)) ts v p))
+  from_simple ts v p = at ts (take_out prim_head (PostAfter (may_open d) V) (SimpleThen (may_open d) V) ts v (assoc (Post (may_open d) V) (SimpleEnd (may_open d) V) (λ s. Done (SimpleFirst s)) ts v p))
     where
       at : (ts : List Piece) → Take prim_head Pathed ts v → ForInit (may_open d) V ts v
       at [] q = absurd q
@@ -147,17 +147,17 @@ module _ (d : ℕ) where
     where
       at : Either (AToken t) ts v → Declaration (may_open d) V (AToken t ∷ ts) v ⊎ Simply (may_open d) V (AToken t ∷ ts) v
       at (inl r) = inl (take_back type_head (TypeEnd (may_open d)) (Declared (may_open d) V) (AToken t ∷ ts) v r)
-      at (inr r) = inr (unassoc (Post (may_open d) V) (SimpleEnd (may_open d) V) (λ s. Done (SimpleFirst s)) (AToken t ∷ ts) v (take_back prim_head (PostBehind (may_open d) V) (SimpleThen (may_open d) V) (AToken t ∷ ts) v r))
+      at (inr r) = inr (unassoc (Post (may_open d) V) (SimpleEnd (may_open d) V) (λ s. Done (SimpleFirst s)) (AToken t ∷ ts) v (take_back prim_head (PostAfter (may_open d) V) (SimpleThen (may_open d) V) (AToken t ∷ ts) v r))
 
   -- ---- where a type and a name come first
 
-  abbrev Behinds : TypeHead → List Piece → NameTree → Type 0
-  Behinds h = Bind (TypeEnd (may_open d) h) (λ t. AnyName)
+  abbrev Afters : TypeHead → List Piece → NameTree → Type 0
+  Afters h = Bind (TypeEnd (may_open d) h) (λ t. AnyName)
 
-  begun_kind : (p : Place) (k : Kind) (ts rest : List Piece) (m : NameTree) (v : ForInitTree) → After (type_head_kind p k) Behinds ts m → Started (token_at p k) (ts ++ rest) v → declares_names v ≡ true
+  begun_kind : (p : Place) (k : Kind) (ts rest : List Piece) (m : NameTree) (v : ForInitTree) → After (type_head_kind p k) Afters ts m → Started (token_at p k) (ts ++ rest) v → declares_names v ≡ true
   begun_kind p (AWord w) ts rest m v b q = begun_word w b q
     where
-      begun_word : (w : Word) → After (type_head_kind p (AWord w)) Behinds ts m → Started (token_at p (AWord w)) (ts ++ rest) v → declares_names v ≡ true
+      begun_word : (w : Word) → After (type_head_kind p (AWord w)) Afters ts m → Started (token_at p (AWord w)) (ts ++ rest) v → declares_names v ≡ true
       begun_word word.Int b q = declared_is d q.first q.back v q.goes_on
       begun_word word.Bool b q = declared_is d q.first q.back v q.goes_on
       begun_word word.Object b q = declared_is d q.first q.back v q.goes_on
@@ -167,13 +167,13 @@ module _ (d : ℕ) where
       let s = r.goes_on in
       let e : b.front ≡ r.front ++ s.front = r.parts ∙ ap (λ y. r.front ++ y) (s.parts ∙ ap (λ y. s.front ++ y) s.goes_on.0 ∙ append-nil s.front) in
       let f : ts ≡ r.front ++ (s.front ++ b.back) = b.parts ∙ ap (λ y. y ++ b.back) e ∙ append_assoc r.front s.front b.back in
-      begun_is d (record { text = n; place = p }) m r.first s.first r.front s.front b.back rest v r.reads s.reads b.goes_on (subst (λ y. NameBehind (may_open d) V (record { text = n; place = p }) (y ++ rest) v) f q)
+      begun_is d (record { text = n; place = p }) m r.first s.first r.front s.front b.back rest v r.reads s.reads b.goes_on (subst (λ y. NameAfter (may_open d) V (record { text = n; place = p }) (y ++ rest) v) f q)
   begun_kind p _ ts rest m v b q = absurd b
 
   begun : (ts : List Piece) (v : ForInitTree) → ForInit (may_open d) V ts v → Begins (may_open d) ts → declares_names v ≡ true
   begun ts v q b = at b.front (take_out type_head (TypeEnd (may_open d)) (λ t. AnyName) b.front b.name b.reads) (subst (λ y. ForInit (may_open d) V y v) b.parts q)
     where
-      at : (front : List Piece) → Take type_head Behinds front b.name → ForInit (may_open d) V (front ++ b.rest) v → declares_names v ≡ true
+      at : (front : List Piece) → Take type_head Afters front b.name → ForInit (may_open d) V (front ++ b.rest) v → declares_names v ≡ true
       at [] r q = absurd r
       at (LeftOut ∷ front) r q = absurd r
       at (AToken t ∷ front) r q = begun_kind t.place t.kind front b.rest b.name v r q

@@ -19,25 +19,25 @@ use Rattle.ss_grammar_expressions.proofs.Pieces.{unary_first, postfix_set, expr_
 use Rattle.ss_grammar_expressions.proofs.Expressions.{inner_parts, inner_readers, bang_to, index_end_to}
 use Rattle.ss_grammar_expressions.proofs.Unaries.{number_piece}
 use Rattle.ss_grammar_statements.specs.Heads.{NextHead, NextName, NextBang, NextBracket, next_head, next_opens, StartHead, TypeFirst, NameFirst, PrimFirst, start_head, start_opens}
-use Rattle.ss_grammar_statements.specs.Grammar.{declared, declares, DeclsFrom, Declared, PostBehind, SimpleThen, SimpleFrom, ElementOrArray, NextBehind, NameBehind, StartBehind, ForInit}
-use Rattle.ss_grammar_statements.specs.Parser.{decls_from, declaration, post_behind, simple_then, simple_from, array_declared, element_first, element_or_declared, next_behind, name_behind, start_behind, for_init}
+use Rattle.ss_grammar_statements.specs.Grammar.{declared, declares, DeclsFrom, Declared, PostAfter, SimpleThen, SimpleFrom, ElementOrArray, NextAfter, NameAfter, StartAfter, ForInit}
+use Rattle.ss_grammar_statements.specs.Parser.{decls_from, declaration, post_after, simple_then, simple_from, array_declared, element_first, element_or_declared, next_behind, name_after, start_after, for_init}
 use Rattle.ss_grammar_statements.proofs.Pieces.{simple_set, start_first, decls_goes, simple_goes, start_goes, next_in, start_in}
 use Rattle.ss_grammar_statements.proofs.Openings.{take_heads, heads_alive}
 use Rattle.ss_grammar_statements.proofs.Declarations.{decls_from_to, declared_to, typed_to}
 use Rattle.ss_grammar_statements.proofs.Paths.{post_set, post_never, post_open, post_leaf, simple_then_to, simple_from_to}
 
 -- a `[` opens a level, and so does a `(`
-next_never : (x : NameTree) (h : NextHead) → next_opens h ≡ true → (ts : List Piece) (v : ForInitTree) → NextBehind false NoParts x h ts v → ⊥
+next_never : (x : NameTree) (h : NextHead) → next_opens h ≡ true → (ts : List Piece) (v : ForInitTree) → NextAfter false NoParts x h ts v → ⊥
 next_never x (NextName m) e ts v q = cc
 next_never x NextBang e ts v q = cc
 next_never x NextBracket e ts v q = q
 
-pub start_never : (h : StartHead) → start_opens h ≡ true → (ts : List Piece) (v : ForInitTree) → StartBehind false NoParts h ts v → ⊥
+pub start_never : (h : StartHead) → start_opens h ≡ true → (ts : List Piece) (v : ForInitTree) → StartAfter false NoParts h ts v → ⊥
 start_never (TypeFirst t) e ts v q = cc
 start_never (NameFirst n) e ts v q = cc
 start_never (PrimFirst h) e ts v q = post_never h e q.front q.first q.reads
 
--- what may stand behind a name, and behind any first token
+-- what may stand after a name, and after any first token
 abbrev pub name_set : List ℕ
 name_set = 32 ∷ 31 ∷ 17 ∷ 22 ∷ 15 ∷ simple_set
 
@@ -51,7 +51,7 @@ module _ (n : ℕ) (U : (i : Part) → ℕ → List Piece → Value i → Type 0
   abbrev w : ℕ → Inner
   w d = inner_readers u d
 
-  -- ---- behind Name "["
+  -- ---- after Name "["
 
   declared_above : (t : TypeTree) → PartOf n (λ d. Declared true (V (suc d)) t) (32 ∷ []) decls_goes false (λ d. declaration (suc d) (w (suc d)) t)
   declared_above t = to_above n (λ d. Declared (may_open d) (V d) t) (In (32 ∷ [])) (In decls_goes) false (λ d. declaration d (w d) t) (declared_to n U u whole t)
@@ -81,7 +81,7 @@ module _ (n : ℕ) (U : (i : Part) → ℕ → List Piece → Value i → Type 0
   abbrev a_declarator : DeclaratorTree
   a_declarator = declared a_sample None
 
-  -- behind a declared name nothing more need come
+  -- after a declared name nothing more need come
   decls_nil : (o : Bool) (V : Parts) → DeclsFrom o V a_sample [] (a_declarator ∷ [])
   decls_nil o V = record { first = a_declarator; front = []; back = []; parts = refl; reads = refl; goes_on = (0, (refl, refl)) }
 
@@ -112,10 +112,10 @@ module _ (n : ℕ) (U : (i : Part) → ℕ → List Piece → Value i → Type 0
       (larger n (Elements x) unary_first simple_goes (18 ∷ unary_first) start_goes false (λ d. element_first (suc d) (w (suc d)) x) refl refl (element_to x))
       (λ h. absurd cc) (λ h. absurd cc) (array_sample x)
 
-  -- ---- behind a name
+  -- ---- after a name
 
   abbrev Nexts : NameTree → NextHead → ℕ → List Piece → ForInitTree → Type 0
-  Nexts x h d = NextBehind (may_open d) (V d) x h
+  Nexts x h d = NextAfter (may_open d) (V d) x h
 
   abbrev nexts : NameTree → NextHead → ℕ → Gets ForInitTree
   nexts x h d = next_behind d (w d) x h
@@ -139,7 +139,7 @@ module _ (n : ℕ) (U : (i : Part) → ℕ → List Piece → Value i → Type 0
   next_leaf x NextBracket e = absurd cc
 
   abbrev Headed : NameTree → ℕ → List Piece → ForInitTree → Type 0
-  Headed x d = Take next_head (NextBehind (may_open d) (V d) x)
+  Headed x d = Take next_head (NextAfter (may_open d) (V d) x)
 
   abbrev headed : NameTree → ℕ → Gets ForInitTree
   headed x d = take (tokened next_head) (λ y. opened (next_opens y.0) d (next_behind d (w d) x y.0) y.1)
@@ -157,9 +157,9 @@ module _ (n : ℕ) (U : (i : Part) → ℕ → List Piece → Value i → Type 0
   headed_to x = take_heads n next_head (32 ∷ 31 ∷ 17 ∷ []) next_in next_opens (Nexts x) (nexts x) next_set start_goes true (next_never x) (next_open x) (next_leaf x)
       (record { more = (name_sample x).0 ∷ (name_sample x).1; value = (name_sample x).2; reads = (name_sample x).4 })
 
-  pub name_behind_to : (x : NameTree) → PartOf (suc n) (λ d. NameBehind (may_open d) (V d) x) name_set start_goes true (λ d. name_behind d (w d) x)
-  unfolding name_behind
-  name_behind_to x = to_choose (suc n) (is next_head) (Headed x) (λ d. SimpleFrom (may_open d) (V d) x.place (named x)) (In name_set) (In start_goes) true (headed x) (λ d. simple_from d (w d) x.place (named x)) (In (32 ∷ 31 ∷ 17 ∷ [])) (headed_to x)
+  pub name_after_to : (x : NameTree) → PartOf (suc n) (λ d. NameAfter (may_open d) (V d) x) name_set start_goes true (λ d. name_after d (w d) x)
+  unfolding name_after
+  name_after_to x = to_choose (suc n) (is next_head) (Headed x) (λ d. SimpleFrom (may_open d) (V d) x.place (named x)) (In name_set) (In start_goes) true (headed x) (λ d. simple_from d (w d) x.place (named x)) (In (32 ∷ 31 ∷ 17 ∷ [])) (headed_to x)
       (λ t h. subset_in (code t) (32 ∷ 31 ∷ 17 ∷ []) name_set refl (next_in t h))
       (larger (suc n) (λ d. SimpleFrom (may_open d) (V d) x.place (named x)) (postfix_set ++ simple_set) simple_goes name_set start_goes true (λ d. simple_from d (w d) x.place (named x)) refl refl (simple_from_to n U u inner range_part whole x.place (named x)))
       (λ h t k. subset_in (code t) name_set start_goes refl k)
@@ -169,28 +169,28 @@ module _ (n : ℕ) (U : (i : Part) → ℕ → List Piece → Value i → Type 0
   -- ---- all beginnings
 
   abbrev Starters : StartHead → ℕ → List Piece → ForInitTree → Type 0
-  Starters h d = StartBehind (may_open d) (V d) h
+  Starters h d = StartAfter (may_open d) (V d) h
 
   abbrev starters : StartHead → ℕ → Gets ForInitTree
-  starters h d = start_behind d (w d) h
+  starters h d = start_after d (w d) h
 
   then_above : (a : ExprTree) → PartOf n (λ d. SimpleThen true (V (suc d)) a) simple_set simple_goes true (λ d. simple_then (suc d) (w (suc d)) a)
   then_above a = to_above n (λ d. SimpleThen (may_open d) (V d) a) (In simple_set) (In simple_goes) true (λ d. simple_then d (w d) a) (simple_then_to n U u inner range_part whole a)
 
   pub start_open : (h : StartHead) → start_opens h ≡ true → PartOf n (λ d. Starters h (suc d)) start_set start_goes true (λ d. starters h (suc d))
-  unfolding start_behind
+  unfolding start_after
   start_open (TypeFirst t) e = absurd cc
   start_open (NameFirst x) e = absurd cc
   start_open (PrimFirst h) e = larger n (λ d. Starters (PrimFirst h) (suc d)) (post_set ++ simple_set) (simple_goes ++ postfix_set) start_set start_goes true (λ d. starters (PrimFirst h) (suc d)) refl refl
-      (seq n true true (λ d. PostBehind true (V (suc d)) h) (λ a d. SimpleThen true (V (suc d)) a) post_set postfix_set simple_set simple_goes (λ d. post_behind (suc d) (w (suc d)) h) (λ a d. simple_then (suc d) (w (suc d)) a) (post_open n U u inner range_part whole h e) then_above refl)
+      (seq n true true (λ d. PostAfter true (V (suc d)) h) (λ a d. SimpleThen true (V (suc d)) a) post_set postfix_set simple_set simple_goes (λ d. post_after (suc d) (w (suc d)) h) (λ a d. simple_then (suc d) (w (suc d)) a) (post_open n U u inner range_part whole h e) then_above refl)
 
   pub start_leaf : (h : StartHead) → start_opens h ≡ false → PartOf (suc n) (Starters h) start_set start_goes true (starters h)
-  unfolding start_behind
+  unfolding start_after
   start_leaf (TypeFirst t) e = larger (suc n) (Starters (TypeFirst t)) (17 ∷ 31 ∷ 32 ∷ []) decls_goes start_set start_goes true (starters (TypeFirst t)) refl refl
       (may_be_empty (suc n) (Starters (TypeFirst t)) (17 ∷ 31 ∷ 32 ∷ []) decls_goes false (starters (TypeFirst t)) (typed_to n U u whole t))
-  start_leaf (NameFirst x) e = larger (suc n) (Starters (NameFirst x)) name_set start_goes start_set start_goes true (starters (NameFirst x)) refl refl (name_behind_to x)
+  start_leaf (NameFirst x) e = larger (suc n) (Starters (NameFirst x)) name_set start_goes start_set start_goes true (starters (NameFirst x)) refl refl (name_after_to x)
   start_leaf (PrimFirst h) e = larger (suc n) (Starters (PrimFirst h)) (post_set ++ simple_set) (simple_goes ++ postfix_set) start_set start_goes true (starters (PrimFirst h)) refl refl
-      (seq (suc n) true true (λ d. PostBehind (may_open d) (V d) h) (λ a d. SimpleThen (may_open d) (V d) a) post_set postfix_set simple_set simple_goes (λ d. post_behind d (w d) h) (λ a d. simple_then d (w d) a) (post_leaf n U u inner range_part whole h e) (simple_then_to n U u inner range_part whole) refl)
+      (seq (suc n) true true (λ d. PostAfter (may_open d) (V d) h) (λ a d. SimpleThen (may_open d) (V d) a) post_set postfix_set simple_set simple_goes (λ d. post_after d (w d) h) (λ a d. simple_then d (w d) a) (post_leaf n U u inner range_part whole h e) (simple_then_to n U u inner range_part whole) refl)
 
   abbrev number : ExprTree
   number = NumberOf no_place (pos 0)

@@ -21,7 +21,7 @@ use Rattle.ss_grammar_expressions.proofs.Expressions.{inner_parts, inner_readers
 use Rattle.ss_grammar_expressions.proofs.Tied.{firsts, goings, empties, samples, musts, Over, over, level, seed, seeded, seed_starts}
 use Rattle.ss_grammar_expressions.proofs.Tied.{body as expr_body}
 use Rattle.ss_grammar_statements.specs.Grammar.{Nest, TheStatements, TheGoverned, TheHeading, Listed, HeadingTree, Nested, NoNests, open_if, Production, NestedAt, left_out_block, WholeBlock, Block}
-use Rattle.ss_grammar_statements.specs.Parser.{block_behind, nested_production, nested, nested_below, block}
+use Rattle.ss_grammar_statements.specs.Parser.{block_after, nested_production, nested, nested_below, block}
 use Rattle.ss_grammar_statements.proofs.Pieces.{other_first}
 use Rattle.ss_grammar_statements.proofs.Open.{never_open, same_ends, done_shut, take_shut}
 use Rattle.ss_grammar_statements.proofs.Governed.{else_set, an_else, no_else, list_first, heading_first, inner_nests, inner_nesting}
@@ -266,7 +266,7 @@ module _ (n : ℕ) where
   Blocks d = WholeBlock (may_open d) (inner_parts EX d) (inner_nests SX d)
 
   abbrev blocks : ℕ → Gets BlockTree
-  blocks d = take (tokened (or_left_out (the symbol.OpenBrace))) (held d (block_behind d (inner_readers ex d) (inner_nesting sx d)) left_out_block)
+  blocks d = take (tokened (or_left_out (the symbol.OpenBrace))) (held d (block_after d (inner_readers ex d) (inner_nesting sx d)) left_out_block)
 
   blocks_to : PartOf (suc n) Blocks (36 ∷ 13 ∷ []) [] false blocks
   blocks_to = whole_block_to n EX ex SX sx (tied_part n (OfExpr TheExpression)).reads (tied_part n (OfExpr TheRange)).reads (level n EX ex (λ j. tied_part n (OfExpr j)) TheExpression) (tied_part n (OfStmt TheStatements)).reads (tied_part n (OfStmt TheGoverned)).reads (tied_ends (OfStmt TheGoverned)) (tied_part n (OfStmt TheHeading)).reads

@@ -1,4 +1,4 @@
--- Behind a name: where the name begins a type and a name stands behind the type it is a declaration, else a path.
+-- After a name: where the name begins a type and a name stands after the type it is a declaration, else a path.
 use Rattle.std.proofs.Common.{◌≡◌, ℕ, zero, suc, List, [], ◌∷◌, ◌++◌, Option, Some, None, Bool, true, false, refl, sym, ap, subst, ◌∙◌, ◌⊎◌, inl, inr, option_map}
 use Rattle.std.proofs.lemmas.List.{append-nil}
 use Rattle.ss_core.specs.declared.names.Place.{Place}
@@ -12,20 +12,20 @@ use Rattle.ss_grammar.proofs.Facts.{known}
 use Rattle.ss_grammar.proofs.Good.{many_from, many_to, bind_in}
 use Rattle.ss_grammar_expressions.specs.First.{Chosen}
 use Rattle.ss_grammar_expressions.specs.Heads.{Piece, AToken, LeftOut, is, found, the, symbol_is, a_name, name_of, PostfixHead, IndexHead, postfix_head, postfix_of}
-use Rattle.ss_grammar_expressions.specs.Grammar.{TheExpression, TheRange, Parts, Deeper, Brackets, BangEnd, TypeEnd, type_of, AnyName, IndexEnd, head_of, named, joined, PostfixBehind, Postfixes}
+use Rattle.ss_grammar_expressions.specs.Grammar.{TheExpression, TheRange, Parts, Deeper, Brackets, BangEnd, TypeEnd, type_of, AnyName, IndexEnd, head_of, named, joined, PostfixAfter, Postfixes}
 use Rattle.ss_grammar_expressions.proofs.Sets.{code, In, disjoint, disjoint_in}
 use Rattle.ss_grammar_expressions.proofs.Levels.{may_open, the_in}
 use Rattle.ss_grammar_expressions.proofs.Pieces.{unary_first, postfix_set, name_in}
 use Rattle.ss_grammar_expressions.proofs.Expressions.{inner_parts}
 use Rattle.ss_grammar_expressions.proofs.Tied.{reads_all}
 use Rattle.ss_grammar_statements.specs.Heads.{NextHead, NextName, NextBang, NextBracket, next_of, next_head}
-use Rattle.ss_grammar_statements.specs.Grammar.{declares, DeclsFrom, Declared, SimpleThen, SimpleFrom, ElementOrArray, NextBehind, NameBehind}
+use Rattle.ss_grammar_statements.specs.Grammar.{declares, DeclsFrom, Declared, SimpleThen, SimpleFrom, ElementOrArray, NextAfter, NameAfter}
 use Rattle.ss_grammar_statements.specs.Written.{declares_names}
 use Rattle.ss_grammar_statements.proofs.Pieces.{simple_set}
 use Rattle.ss_grammar_statements.proofs.Paths.{simple_then_to, simple_from_to}
 use Rattle.ss_grammar_statements.proofs.Written.{assoc, unassoc, from_done, to_done, Exprs, exprs, whole_at}
 
--- ---- the tokens behind a name
+-- ---- the tokens after a name
 
 name_next : (t : Piece) (m : NameTree) → a_name t ≡ Some m → next_head t ≡ Some (NextName m)
 name_next LeftOut m e = absurd cc
@@ -103,7 +103,7 @@ next_bracket (AToken t) e = at t.place t.kind e
     at p (ASymbol r) h = sym p r h
     at p _ h = absurd cc
 
--- a token that f knows, and nothing behind it
+-- a token that f knows, and nothing after it
 one_known : {A B : Type 0} (o : Option B) (a : A) → known o ≡ true → After {T = Piece} o (λ _. Done a) [] a
 one_known None a h = absurd cc
 one_known (Some b) a h = (refl, refl)
@@ -166,26 +166,26 @@ module _ (d : ℕ) where
   not_end : (a : ExprTree) (t : Piece) (m : List Piece) (v : ForInitTree) → In (17 ∷ []) t ≡ true → SimpleThen o V a (t ∷ m) v → ⊥
   not_end a t m v h q = disjoint_in (code t) (17 ∷ []) simple_set refl h ((simple_then_to 0 Exprs exprs (reads_all 0 TheExpression) (reads_all 0 TheRange) (whole_at 1) a).good.facts.firsts t m v (d, q))
 
-  -- ---- a choice by the token behind the name
+  -- ---- a choice by the token after the name
 
-  choose_next : (n : NameTree) (t : Piece) (h : NextHead) (ts : List Piece) (v : ForInitTree) → next_head t ≡ Some h → NextBehind o V n h ts v → NameBehind o V n (t ∷ ts) v
-  choose_next n t h ts v e q = subst (λ (b : Bool). Chosen b (Take next_head (NextBehind o V n)) (SimpleFrom o V n.place (named n)) (t ∷ ts) v) (sym (ap found e)) (subst (λ (x : Option NextHead). After x (NextBehind o V n) ts v) (sym e) q)
+  choose_next : (n : NameTree) (t : Piece) (h : NextHead) (ts : List Piece) (v : ForInitTree) → next_head t ≡ Some h → NextAfter o V n h ts v → NameAfter o V n (t ∷ ts) v
+  choose_next n t h ts v e q = subst (λ (b : Bool). Chosen b (Take next_head (NextAfter o V n)) (SimpleFrom o V n.place (named n)) (t ∷ ts) v) (sym (ap found e)) (subst (λ (x : Option NextHead). After x (NextAfter o V n) ts v) (sym e) q)
 
-  choose_path : (n : NameTree) (t : Piece) (ts : List Piece) (v : ForInitTree) → next_head t ≡ None → SimpleFrom o V n.place (named n) (t ∷ ts) v → NameBehind o V n (t ∷ ts) v
-  choose_path n t ts v e q = subst (λ (b : Bool). Chosen b (Take next_head (NextBehind o V n)) (SimpleFrom o V n.place (named n)) (t ∷ ts) v) (sym (ap found e)) q
+  choose_path : (n : NameTree) (t : Piece) (ts : List Piece) (v : ForInitTree) → next_head t ≡ None → SimpleFrom o V n.place (named n) (t ∷ ts) v → NameAfter o V n (t ∷ ts) v
+  choose_path n t ts v e q = subst (λ (b : Bool). Chosen b (Take next_head (NextAfter o V n)) (SimpleFrom o V n.place (named n)) (t ∷ ts) v) (sym (ap found e)) q
 
-  chosen_next : (n : NameTree) (t : Piece) (h : NextHead) (ts : List Piece) (v : ForInitTree) → next_head t ≡ Some h → NameBehind o V n (t ∷ ts) v → NextBehind o V n h ts v
-  chosen_next n t h ts v e q = subst (λ (x : Option NextHead). After x (NextBehind o V n) ts v) e (subst (λ (b : Bool). Chosen b (Take next_head (NextBehind o V n)) (SimpleFrom o V n.place (named n)) (t ∷ ts) v) (ap found e) q)
+  chosen_next : (n : NameTree) (t : Piece) (h : NextHead) (ts : List Piece) (v : ForInitTree) → next_head t ≡ Some h → NameAfter o V n (t ∷ ts) v → NextAfter o V n h ts v
+  chosen_next n t h ts v e q = subst (λ (x : Option NextHead). After x (NextAfter o V n) ts v) e (subst (λ (b : Bool). Chosen b (Take next_head (NextAfter o V n)) (SimpleFrom o V n.place (named n)) (t ∷ ts) v) (ap found e) q)
 
-  chosen_path : (n : NameTree) (t : Piece) (ts : List Piece) (v : ForInitTree) → next_head t ≡ None → NameBehind o V n (t ∷ ts) v → SimpleFrom o V n.place (named n) (t ∷ ts) v
-  chosen_path n t ts v e q = subst (λ (b : Bool). Chosen b (Take next_head (NextBehind o V n)) (SimpleFrom o V n.place (named n)) (t ∷ ts) v) (ap found e) q
+  chosen_path : (n : NameTree) (t : Piece) (ts : List Piece) (v : ForInitTree) → next_head t ≡ None → NameAfter o V n (t ∷ ts) v → SimpleFrom o V n.place (named n) (t ∷ ts) v
+  chosen_path n t ts v e q = subst (λ (b : Bool). Chosen b (Take next_head (NextAfter o V n)) (SimpleFrom o V n.place (named n)) (t ∷ ts) v) (ap found e) q
 
   -- ---- a declaration
 
   abbrev Typed : NameTree → List Piece → ForInitTree → Type 0
   Typed n = Bind (TypeEnd o (head_of n)) (Declared o V)
 
-  -- a type's end and a declaration behind it
+  -- a type's end and a declaration after it
   typed : (n : NameTree) (b s : Bool) (qf rf back : List Piece) (v : ForInitTree) → Brackets o qf b → BangEnd rf s → Declared o V (type_of (head_of n) b s) back v → Typed n ((qf ++ rf) ++ back) v
   typed n b s qf rf back v p r q = record {
     first = type_of (head_of n) b s;
@@ -197,22 +197,22 @@ module _ (d : ℕ) where
   }
 
   -- a declared name comes first
-  plain_declared : (n : NameTree) (ts : List Piece) (v : ForInitTree) → Declared o V (type_of (head_of n) false false) ts v → NameBehind o V n ts v
+  plain_declared : (n : NameTree) (ts : List Piece) (v : ForInitTree) → Declared o V (type_of (head_of n) false false) ts v → NameAfter o V n ts v
   plain_declared n ts v q =
       let c : Bind AnyName (λ m. Bind (DeclsFrom o V m) (λ cs. Done (declares (type_of (head_of n) false false) cs))) ts v = assoc AnyName (DeclsFrom o V) (λ cs. Done (declares (type_of (head_of n) false false) cs)) ts v q in
-      subst (λ y. NameBehind o V n y v) (sym c.parts) (at c.front c.first c.back c.reads c.goes_on)
+      subst (λ y. NameAfter o V n y v) (sym c.parts) (at c.front c.first c.back c.reads c.goes_on)
     where
-      at : (front : List Piece) (m : NameTree) (back : List Piece) → AnyName front m → NextBehind o V n (NextName m) back v → NameBehind o V n (front ++ back) v
+      at : (front : List Piece) (m : NameTree) (back : List Piece) → AnyName front m → NextAfter o V n (NextName m) back v → NameAfter o V n (front ++ back) v
       at [] m back p r = absurd p
       at (t ∷ front) m back p r = in_name (a_name t) refl p
         where
-          in_name : (x : Option NameTree) → a_name t ≡ x → After x Done front m → NameBehind o V n (t ∷ (front ++ back)) v
+          in_name : (x : Option NameTree) → a_name t ≡ x → After x Done front m → NameAfter o V n (t ∷ (front ++ back)) v
           in_name None e p = absurd p
           in_name (Some k) e p =
               let h : k ≡ m = sym p.1 in
-              choose_next n t (NextName m) (front ++ back) v (name_next t m (subst (λ y. a_name t ≡ Some y) h e)) (subst (λ (y : List Piece). NextBehind o V n (NextName m) (y ++ back) v) (sym p.0) r)
+              choose_next n t (NextName m) (front ++ back) v (name_next t m (subst (λ y. a_name t ≡ Some y) h e)) (subst (λ (y : List Piece). NextAfter o V n (NextName m) (y ++ back) v) (sym p.0) r)
 
-  bang_name : (n : NameTree) (s : Bool) (rf back : List Piece) (v : ForInitTree) → BangEnd rf s → Declared o V (type_of (head_of n) false s) back v → NameBehind o V n (rf ++ back) v
+  bang_name : (n : NameTree) (s : Bool) (rf back : List Piece) (v : ForInitTree) → BangEnd rf s → Declared o V (type_of (head_of n) false s) back v → NameAfter o V n (rf ++ back) v
   bang_name n s [] back v r q = plain_declared n back v (subst (λ y. Declared o V (type_of (head_of n) false y) back v) r q)
   bang_name n s (t ∷ rf) back v r q =
       let k = one_token (the symbol.Bang t) true rf s r in
@@ -234,7 +234,7 @@ module _ (d : ℕ) where
       let z = deeper_is o (Take (the symbol.CloseBracket) (λ _. Done true)) qf b p in
       (refl, z.0, z.1)
 
-  brackets_name : (n : NameTree) (b s : Bool) (qf rf back : List Piece) (v : ForInitTree) → Brackets o qf b → BangEnd rf s → Declared o V (type_of (head_of n) b s) back v → NameBehind o V n ((qf ++ rf) ++ back) v
+  brackets_name : (n : NameTree) (b s : Bool) (qf rf back : List Piece) (v : ForInitTree) → Brackets o qf b → BangEnd rf s → Declared o V (type_of (head_of n) b s) back v → NameAfter o V n ((qf ++ rf) ++ back) v
   brackets_name n b s [] rf back v p r q = bang_name n s rf back v r (subst (λ y. Declared o V (type_of (head_of n) y s) back v) p q)
   brackets_name n b s (t ∷ qf) rf back v p r q =
       let z = closed_bracket b t qf (the symbol.OpenBracket t) p in
@@ -247,13 +247,13 @@ module _ (d : ℕ) where
           array_choice n y ((qf ++ rf) ++ back) v j.0 (subst (λ (z : List Piece). Arrayed n ((z ++ rf) ++ back) v) (sym j.1) (record { first = s; front = rf; back = back; parts = refl; reads = r; goes_on = subst (λ z. Declared o V (type_of (head_of n) z s) back v) j.2 q }))
 
   -- a declaration whose type the name begins
-  pub typed_name : (n : NameTree) (ts : List Piece) (v : ForInitTree) → Typed n ts v → NameBehind o V n ts v
+  pub typed_name : (n : NameTree) (ts : List Piece) (v : ForInitTree) → Typed n ts v → NameAfter o V n ts v
   typed_name n ts v p =
       let r = p.reads in
       let s = r.goes_on in
       let e : r.back ≡ s.front = s.parts ∙ ap (λ y. s.front ++ y) s.goes_on.0 ∙ append-nil s.front in
       let f : ts ≡ (r.front ++ s.front) ++ p.back = p.parts ∙ ap (λ y. y ++ p.back) (r.parts ∙ ap (λ y. r.front ++ y) e) in
-      subst (λ y. NameBehind o V n y v) (sym f) (brackets_name n r.first s.first r.front s.front p.back v r.reads s.reads (subst (λ t. Declared o V t p.back v) s.goes_on.1 p.goes_on))
+      subst (λ y. NameAfter o V n y v) (sym f) (brackets_name n r.first s.first r.front s.front p.back v r.reads s.reads (subst (λ t. Declared o V t p.back v) s.goes_on.1 p.goes_on))
 
   -- ---- a path
 
@@ -280,7 +280,7 @@ module _ (d : ℕ) where
       at (r ∷ front) m e =
           let k : r ≡ t = (let y : t ≡ r = cc in sym y) in
           let f : ts ≡ front ++ q.back = cc in
-          let w : Bind (PostfixBehind o V IndexHead) (λ b. More p (b p a)) front q.first = subst (λ (x : Option PostfixHead). After x (λ h. Bind (PostfixBehind o V h) (λ b. More p (b p a))) front q.first) (ap postfix_head k ∙ i) (many_to postfix_head (joined p) (PostfixBehind o V) a m.0 (r ∷ front) q.first m.1) in
+          let w : Bind (PostfixAfter o V IndexHead) (λ b. More p (b p a)) front q.first = subst (λ (x : Option PostfixHead). After x (λ h. Bind (PostfixAfter o V h) (λ b. More p (b p a))) front q.first) (ap postfix_head k ∙ i) (many_to postfix_head (joined p) (PostfixAfter o V) a m.0 (r ∷ front) q.first m.1) in
           let z = deeper_is o Indexing w.front w.first w.reads in
           let x : Bind Indexing (λ b. More p (b p a)) front q.first = record { first = w.first; front = w.front; back = w.back; parts = w.parts; reads = z.1; goes_on = w.goes_on } in
           let y = bind_in Index Index (λ e. Bind (Done (indexed e)) (λ b. More p (b p a))) (λ e. More p (ElementOf p a e)) (λ ts v j. j) (λ e ts v j. from_done (indexed e) (λ b. More p (b p a)) ts v j) front q.first (assoc Index (λ e. Done (indexed e)) (λ b. More p (b p a)) front q.first x) in
@@ -290,8 +290,8 @@ module _ (d : ℕ) where
   element_path p a t ts v l i q =
       let y = unassoc Index (λ e. More p (ElementOf p a e)) (SimpleThen o V) ts v q in
       let x = unassoc Index (λ e. Done (indexed e)) (λ b. More p (b p a)) y.front y.first (bind_in Index Index (λ e. More p (ElementOf p a e)) (λ e. Bind (Done (indexed e)) (λ b. More p (b p a))) (λ ts v j. j) (λ e ts v j. to_done (indexed e) (λ b. More p (b p a)) ts v j) y.front y.first y.reads) in
-      let w : Bind (PostfixBehind o V IndexHead) (λ b. More p (b p a)) y.front y.first = record { first = x.first; front = x.front; back = x.back; parts = x.parts; reads = to_deeper o Indexing x.front x.first l x.reads; goes_on = x.goes_on } in
-      let m : More p a (t ∷ y.front) y.first = many_from postfix_head (joined p) (PostfixBehind o V) a (t ∷ y.front) y.first (subst (λ (x : Option PostfixHead). After x (λ h. Bind (PostfixBehind o V h) (λ b. More p (b p a))) y.front y.first) (sym i) w) in
+      let w : Bind (PostfixAfter o V IndexHead) (λ b. More p (b p a)) y.front y.first = record { first = x.first; front = x.front; back = x.back; parts = x.parts; reads = to_deeper o Indexing x.front x.first l x.reads; goes_on = x.goes_on } in
+      let m : More p a (t ∷ y.front) y.first = many_from postfix_head (joined p) (PostfixAfter o V) a (t ∷ y.front) y.first (subst (λ (x : Option PostfixHead). After x (λ h. Bind (PostfixAfter o V h) (λ b. More p (b p a))) y.front y.first) (sym i) w) in
       record { first = y.first; front = t ∷ y.front; back = y.back; parts = ap (λ (z : List Piece). t ∷ z) y.parts; reads = m; goes_on = y.goes_on }
 
   element_choice : (n : NameTree) (ts : List Piece) (v : ForInitTree) → Elements n.place (named n) ts v → ElementOrArray o V n ts v
@@ -303,11 +303,11 @@ module _ (d : ℕ) where
       at false e = subst (λ (b : Bool). Chosen b (Take (the symbol.CloseBracket) (λ _. Arrayed n)) (Elements n.place (named n)) (t ∷ ts) v) (sym e) q
 
   -- a path that the name begins
-  pub path_name : (n : NameTree) (ts : List Piece) (v : ForInitTree) → SimpleFrom o V n.place (named n) ts v → NameBehind o V n ts v
+  pub path_name : (n : NameTree) (ts : List Piece) (v : ForInitTree) → SimpleFrom o V n.place (named n) ts v → NameAfter o V n ts v
   path_name n [] v q = q
   path_name n (t ∷ ts) v q = at (next_head t) refl
     where
-      at : (h : Option NextHead) → next_head t ≡ h → NameBehind o V n (t ∷ ts) v
+      at : (h : Option NextHead) → next_head t ≡ h → NameAfter o V n (t ∷ ts) v
       at None e = choose_path n t ts v e q
       at (Some (NextName m)) e = absurd (not_path n.place (named n) t ts v (32 ∷ []) (name_in t (ap known (next_name t m e))) refl q)
       at (Some NextBang) e = absurd (not_path n.place (named n) t ts v (31 ∷ []) (the_in symbol.Bang t (next_bang t e)) refl q)
@@ -321,7 +321,7 @@ module _ (d : ℕ) where
   abbrev Told : NameTree → List Piece → ForInitTree → Type 0
   Told n ts v = Typed n ts v ⊎ SimpleFrom o V n.place (named n) ts v
 
-  named_declared : (n m : NameTree) (t : Piece) (ts : List Piece) (v : ForInitTree) → next_head t ≡ Some (NextName m) → NextBehind o V n (NextName m) ts v → Typed n (t ∷ ts) v
+  named_declared : (n m : NameTree) (t : Piece) (ts : List Piece) (v : ForInitTree) → next_head t ≡ Some (NextName m) → NextAfter o V n (NextName m) ts v → Typed n (t ∷ ts) v
   named_declared n m t ts v e q =
       let a : AnyName (t ∷ []) m = subst (λ (x : Option NameTree). After {T = Piece} x Done [] m) (sym (next_name t m e)) (refl, refl) in
       let r : Declared o V (type_of (head_of n) false false) (t ∷ ts) v = record { first = q.first; front = t ∷ q.front; back = q.back; parts = ap (λ (y : List Piece). t ∷ y) q.parts; reads = record { first = m; front = t ∷ []; back = q.front; parts = refl; reads = a; goes_on = q.reads }; goes_on = q.goes_on } in
@@ -346,7 +346,7 @@ module _ (d : ℕ) where
       at None i = inr (element_path n.place (named n) t (s ∷ ts) v l (next_bracket t e).1 (subst (λ (b : Bool). Chosen b (Take (the symbol.CloseBracket) (λ _. Arrayed n)) (Elements n.place (named n)) (s ∷ ts) v) (ap found i) q))
       at (Some p) i = inl (after (Some p) i refl (subst (λ (x : Option Place). After x (λ _. Arrayed n) ts v) i (subst (λ (b : Bool). Chosen b (Take (the symbol.CloseBracket) (λ _. Arrayed n)) (Elements n.place (named n)) (s ∷ ts) v) (ap found i) q)))
 
-  pub name_told : (n : NameTree) (ts : List Piece) (v : ForInitTree) → NameBehind o V n ts v → Told n ts v
+  pub name_told : (n : NameTree) (ts : List Piece) (v : ForInitTree) → NameAfter o V n ts v → Told n ts v
   name_told n [] v q = inr q
   name_told n (t ∷ ts) v q = at (next_head t) refl
     where
@@ -370,8 +370,8 @@ module _ (d : ℕ) where
       at None r = absurd r
       at (Some p) r = declared_is (type_of (head_of n) true r.first) r.back v r.goes_on
 
-  -- behind a name: what is left of a type, and a name
-  pub begun_is : (n m : NameTree) (b s : Bool) (qf rf nf rest : List Piece) (v : ForInitTree) → Brackets o qf b → BangEnd rf s → AnyName nf m → NameBehind o V n ((qf ++ (rf ++ nf)) ++ rest) v → declares_names v ≡ true
+  -- after a name: what is left of a type, and a name
+  pub begun_is : (n m : NameTree) (b s : Bool) (qf rf nf rest : List Piece) (v : ForInitTree) → Brackets o qf b → BangEnd rf s → AnyName nf m → NameAfter o V n ((qf ++ (rf ++ nf)) ++ rest) v → declares_names v ≡ true
   begun_is n m b s [] [] [] rest v p r k q = absurd k
   begun_is n m b s [] [] (t ∷ nf) rest v p r k q = at (a_name t) refl k
     where

@@ -37,11 +37,11 @@ declares t cs = DeclareFirst (record { ty = t; declarators = cs })
 module _ (o : Bool) (V : Parts) where
   -- ---- declarations
 
-  -- behind a declared name: [ "=" Expr ]
+  -- after a declared name: [ "=" Expr ]
   abbrev pub Initial : NameTree → List Piece → DeclaratorTree → Type 0
   Initial n = Maybe (the symbol.Equal) (λ _. Bind (WholeExpression o V) (λ e. Done (declared n (Some e)))) (declared n None)
 
-  -- behind the first of the declared names
+  -- after the first of the declared names
   abbrev pub DeclsFrom : NameTree → List Piece → List DeclaratorTree → Type 0
   DeclsFrom n = Bind (Initial n) (λ c. Many (the symbol.Comma) (λ _. Bind AnyName Initial) join_declarator (c ∷ []))
 
@@ -49,7 +49,7 @@ module _ (o : Bool) (V : Parts) where
   abbrev pub Decls : List Piece → List DeclaratorTree → Type 0
   Decls = Bind AnyName DeclsFrom
 
-  -- behind the type t: Decls
+  -- after the type t: Decls
   abbrev pub Declared : TypeTree → List Piece → ForInitTree → Type 0
   Declared t = Bind Decls (λ cs. Done (declares t cs))
 
@@ -58,30 +58,30 @@ module _ (o : Bool) (V : Parts) where
   -- Prim = Number | String | "true" | "false" | "null" | "this" | "base" | "result" | Name
   --      | "(" Expr ")" | "old" "(" Expr ")" | "new" Name "(" [ Args ] ")" | "new" ElemType "[" Expr "]"
   --      | ( "forall" | "exists" ) "{" "int" Name "in" "(" Expr ":" Expr ")" ";" Expr "}"
-  abbrev pub PrimBehind : PrimHead → List Piece → ExprTree → Type 0
-  PrimBehind (ParenPrim p) = Deeper o (Bind (ParenEnd (V TheExpression)) (λ e. Done (ParenOf p e)))
-  PrimBehind (LeafPrim p e) = Done e
-  PrimBehind (OldPrim p) = Old o V p
-  PrimBehind (NewPrim p) = New o V p
-  PrimBehind (QuantifierPrim p q) = Quantified o V p q
+  abbrev pub PrimAfter : PrimHead → List Piece → ExprTree → Type 0
+  PrimAfter (ParenPrim p) = Deeper o (Bind (ParenEnd (V TheExpression)) (λ e. Done (ParenOf p e)))
+  PrimAfter (LeafPrim p e) = Done e
+  PrimAfter (OldPrim p) = Old o V p
+  PrimAfter (NewPrim p) = New o V p
+  PrimAfter (QuantifierPrim p q) = Quantified o V p q
 
   abbrev pub Prim : List Piece → ExprTree → Type 0
-  Prim = Take prim_head PrimBehind
+  Prim = Take prim_head PrimAfter
 
   -- Post = Prim { "." Name | "[" Expr "]" | "(" [ Args ] ")" }
-  abbrev pub PostBehind : PrimHead → List Piece → ExprTree → Type 0
-  PostBehind h = Bind (PrimBehind h) (Postfixes o V (prim_place h))
+  abbrev pub PostAfter : PrimHead → List Piece → ExprTree → Type 0
+  PostAfter h = Bind (PrimAfter h) (Postfixes o V (prim_place h))
 
   abbrev pub Post : List Piece → ExprTree → Type 0
-  Post = Take prim_head PostBehind
+  Post = Take prim_head PostAfter
 
-  abbrev pub SimpleBehind : ExprTree → SimpleHead → List Piece → SimpleTree → Type 0
-  SimpleBehind a (AssignHead op) = Bind (WholeExpression o V) (λ e. Done (AssignOf a op e))
-  SimpleBehind a (StepHead op) = Done (StepOf a op)
+  abbrev pub SimpleAfter : ExprTree → SimpleHead → List Piece → SimpleTree → Type 0
+  SimpleAfter a (AssignHead op) = Bind (WholeExpression o V) (λ e. Done (AssignOf a op e))
+  SimpleAfter a (StepHead op) = Done (StepOf a op)
 
-  -- behind the path a: [ ( "=" | "+=" | "-=" | "*=" ) Expr | "++" | "--" ]
+  -- after the path a: [ ( "=" | "+=" | "-=" | "*=" ) Expr | "++" | "--" ]
   abbrev pub SimpleEnd : ExprTree → List Piece → SimpleTree → Type 0
-  SimpleEnd a = Maybe simple_head (SimpleBehind a) (AloneOf a)
+  SimpleEnd a = Maybe simple_head (SimpleAfter a) (AloneOf a)
 
   -- Simple = Post ( "=" | "+=" | "-=" | "*=" ) Expr | Post ( "++" | "--" ) | Post
   abbrev pub Simple : List Piece → SimpleTree → Type 0
@@ -92,43 +92,43 @@ module _ (o : Bool) (V : Parts) where
   abbrev pub SimpleThen : ExprTree → List Piece → ForInitTree → Type 0
   SimpleThen a = Bind (SimpleEnd a) (λ s. Done (SimpleFirst s))
 
-  -- behind the beginning a of a path
+  -- after the beginning a of a path
   abbrev pub SimpleFrom : Place → ExprTree → List Piece → ForInitTree → Type 0
   SimpleFrom p a = Bind (Postfixes o V p a) SimpleThen
 
-  -- behind Name "[": "]" [ "!" ] Decls, or Expr "]" and the rest of a path
+  -- after Name "[": "]" [ "!" ] Decls, or Expr "]" and the rest of a path
   abbrev pub ElementOrArray : NameTree → List Piece → ForInitTree → Type 0
   ElementOrArray n = Choose (is (the symbol.CloseBracket))
       (Take (the symbol.CloseBracket) (λ _. Bind BangEnd (λ s. Declared (type_of (head_of n) true s))))
       (Bind (IndexEnd (V TheExpression)) (λ i. SimpleFrom n.place (ElementOf n.place (named n) i)))
 
-  abbrev pub NextBehind : NameTree → NextHead → List Piece → ForInitTree → Type 0
-  NextBehind n (NextName m) = Bind (DeclsFrom m) (λ cs. Done (declares (type_of (head_of n) false false) cs))
-  NextBehind n NextBang = Declared (type_of (head_of n) false true)
-  NextBehind n NextBracket = Deeper o (ElementOrArray n)
+  abbrev pub NextAfter : NameTree → NextHead → List Piece → ForInitTree → Type 0
+  NextAfter n (NextName m) = Bind (DeclsFrom m) (λ cs. Done (declares (type_of (head_of n) false false) cs))
+  NextAfter n NextBang = Declared (type_of (head_of n) false true)
+  NextAfter n NextBracket = Deeper o (ElementOrArray n)
 
-  -- behind a name: a declaration exactly where the name begins a type and a name stands behind the type
-  abbrev pub NameBehind : NameTree → List Piece → ForInitTree → Type 0
-  NameBehind n = Choose (is next_head) (Take next_head (NextBehind n)) (SimpleFrom n.place (named n))
+  -- after a name: a declaration exactly where the name begins a type and a name stands after the type
+  abbrev pub NameAfter : NameTree → List Piece → ForInitTree → Type 0
+  NameAfter n = Choose (is next_head) (Take next_head (NextAfter n)) (SimpleFrom n.place (named n))
 
-  -- behind a type's word, behind a name, and behind any other token that a path may begin with
-  abbrev pub StartBehind : StartHead → List Piece → ForInitTree → Type 0
-  StartBehind (TypeFirst t) = Bind (TypeEnd o t) Declared
-  StartBehind (NameFirst n) = NameBehind n
-  StartBehind (PrimFirst h) = Bind (PostBehind h) SimpleThen
+  -- after a type's word, after a name, and after any other token that a path may begin with
+  abbrev pub StartAfter : StartHead → List Piece → ForInitTree → Type 0
+  StartAfter (TypeFirst t) = Bind (TypeEnd o t) Declared
+  StartAfter (NameFirst n) = NameAfter n
+  StartAfter (PrimFirst h) = Bind (PostAfter h) SimpleThen
 
   -- ForInit = Type Decls | Simple
   abbrev pub ForInit : List Piece → ForInitTree → Type 0
-  ForInit = Take start_head StartBehind
+  ForInit = Take start_head StartAfter
 
 -- ---- parts of statements that stand one level deeper, and what each is read as
 
 pub data Nest : Type 0 where
-  -- what is behind the `{` of a block
+  -- what is after the `{` of a block
   TheStatements : Nest
   -- a statement other than a block, which another governs
   TheGoverned : Nest
-  -- what is behind the `(` of a `for`
+  -- what is after the `(` of a `for`
   TheHeading : Nest
 
 -- the statements of a block, and the place of its `}`
@@ -175,13 +175,13 @@ open_if (EmptyOf p) = false
 module _ (V : Parts) (W : Nests) where
   -- ---- blocks and governed statements
 
-  -- behind the `{` at p: { Stmt } "}"
-  abbrev pub BlockBehind : Place → List Piece → BlockTree → Type 0
-  BlockBehind p = Bind (W TheStatements) (λ b. Done (BlockOf p b.statements b.end))
+  -- after the `{` at p: { Stmt } "}"
+  abbrev pub BlockAfter : Place → List Piece → BlockTree → Type 0
+  BlockAfter p = Bind (W TheStatements) (λ b. Done (BlockOf p b.statements b.end))
 
   -- Block = "{" { Stmt } "}"
   abbrev pub InnerBlock : List Piece → BlockTree → Type 0
-  InnerBlock = Take (the symbol.OpenBrace) BlockBehind
+  InnerBlock = Take (the symbol.OpenBrace) BlockAfter
 
   -- a statement that another governs, which is one level deeper where it isn't a block
   abbrev pub Governed : List Piece → StmtTree → Type 0
@@ -221,7 +221,7 @@ abbrev pub left_out_block : BlockTree
 left_out_block = BlockOf no_place NoMore no_place
 
 module _ (o : Bool) (V : Parts) (W : Nests) where
-  -- what stands behind the first token of a statement:
+  -- what stands after the first token of a statement:
   -- Block
   -- Type Decls ";" | Simple ";"
   -- "if" "(" Expr ")" Stmt [ "else" Stmt ]
@@ -232,29 +232,29 @@ module _ (o : Bool) (V : Parts) (W : Nests) where
   -- "assume" Expr ";"
   -- "expose" "(" Expr [ "at" Name ] ")" Block
   -- ";"
-  abbrev pub StmtBehind : StmtHead → List Piece → StmtTree → Type 0
-  StmtBehind (BlockFirst p) = Deeper o (Bind (BlockBehind V W p) (λ b. Done (InBlock b)))
-  StmtBehind (StartFirst h) = Bind (StartBehind o V h) (λ i. Take (the symbol.Semicolon) (λ _. Done (statement_of i)))
-  StmtBehind (IfFirst p) = Held o (the symbol.Open) (λ _. IfEnd V W p) (EmptyOf p)
-  StmtBehind (WhileFirst p) = Held o (the symbol.Open) (λ _. WhileEnd V W p) (EmptyOf p)
-  StmtBehind (ForFirst p) = Held o (the symbol.Open) (λ _. ForEnd V W p) (EmptyOf p)
-  StmtBehind (ReturnFirst p) = Bind (Optional symbol.Semicolon (WholeExpression o V)) (λ e. Done (ReturnOf p e))
-  StmtBehind (AssertFirst p) = Bind (Ended (WholeExpression o V)) (λ e. Done (AssertOf p e))
-  StmtBehind (AssumeFirst p) = Bind (Ended (WholeExpression o V)) (λ e. Done (AssumeOf p e))
-  StmtBehind (ExposeFirst p) = Held o (the symbol.Open) (λ _. ExposeEnd V W p) (EmptyOf p)
-  StmtBehind (EmptyFirst p) = Done (EmptyOf p)
+  abbrev pub StmtAfter : StmtHead → List Piece → StmtTree → Type 0
+  StmtAfter (BlockFirst p) = Deeper o (Bind (BlockAfter V W p) (λ b. Done (InBlock b)))
+  StmtAfter (StartFirst h) = Bind (StartAfter o V h) (λ i. Take (the symbol.Semicolon) (λ _. Done (statement_of i)))
+  StmtAfter (IfFirst p) = Held o (the symbol.Open) (λ _. IfEnd V W p) (EmptyOf p)
+  StmtAfter (WhileFirst p) = Held o (the symbol.Open) (λ _. WhileEnd V W p) (EmptyOf p)
+  StmtAfter (ForFirst p) = Held o (the symbol.Open) (λ _. ForEnd V W p) (EmptyOf p)
+  StmtAfter (ReturnFirst p) = Bind (Optional symbol.Semicolon (WholeExpression o V)) (λ e. Done (ReturnOf p e))
+  StmtAfter (AssertFirst p) = Bind (Ended (WholeExpression o V)) (λ e. Done (AssertOf p e))
+  StmtAfter (AssumeFirst p) = Bind (Ended (WholeExpression o V)) (λ e. Done (AssumeOf p e))
+  StmtAfter (ExposeFirst p) = Held o (the symbol.Open) (λ _. ExposeEnd V W p) (EmptyOf p)
+  StmtAfter (EmptyFirst p) = Done (EmptyOf p)
 
   -- Stmt
   abbrev pub Stmt : List Piece → StmtTree → Type 0
-  Stmt = Take stmt_head StmtBehind
+  Stmt = Take stmt_head StmtAfter
 
   -- Stmt, but not Block
   abbrev pub Other : List Piece → StmtTree → Type 0
-  Other = Take other_head StmtBehind
+  Other = Take other_head StmtAfter
 
   -- { Stmt } "}"
   abbrev pub Statements : List Piece → Listed → Type 0
-  Statements = Bind (Many stmt_head StmtBehind join_stmt []) (λ ss. Take (the symbol.CloseBrace) (λ p. Done (record { statements = stmt_trees ss; end = p })))
+  Statements = Bind (Many stmt_head StmtAfter join_stmt []) (λ ss. Take (the symbol.CloseBrace) (λ p. Done (record { statements = stmt_trees ss; end = p })))
 
   -- [ ForInit ] ";" [ Expr ] ";" [ Simple ] ")"
   abbrev pub Heading : List Piece → HeadingTree → Type 0
@@ -262,7 +262,7 @@ module _ (o : Bool) (V : Parts) (W : Nests) where
 
   -- Block = "{" { Stmt } "}"
   abbrev pub WholeBlock : List Piece → BlockTree → Type 0
-  WholeBlock = Held o (the symbol.OpenBrace) (BlockBehind V W) left_out_block
+  WholeBlock = Held o (the symbol.OpenBrace) (BlockAfter V W) left_out_block
 
   -- ---- all parts
 

@@ -54,7 +54,7 @@ prim_opens (OldPrim p) = false
 prim_opens (NewPrim p) = false
 prim_opens (QuantifierPrim p q) = false
 
--- ---- behind a path
+-- ---- after a path
 
 pub data SimpleHead : Type 0 where
   AssignHead : AssignOperator → SimpleHead
@@ -78,9 +78,9 @@ abbrev pub simple_head : Piece → Option SimpleHead
 simple_head (AToken t) = simple_of t.kind
 simple_head LeftOut = None
 
--- ---- behind a name at the beginning of a statement
+-- ---- after a name at the beginning of a statement
 
--- a further name or a `!`, so that the first one is a type, or a `[`, behind which either may come
+-- a further name or a `!`, so that the first one is a type, or a `[`, after which either may come
 pub data NextHead : Type 0 where
   NextName : NameTree → NextHead
   NextBang : NextHead

@@ -48,28 +48,28 @@ module _ (d : ℕ) (w : Inner) where
 
   -- ---- simple statements
 
-  unfoldable pub prim_behind : PrimHead → Gets ExprTree
-  prim_behind (ParenPrim p) ts = paren_end (w TheExpression) ts >>= λ e. Ok (ParenOf p e.0, e.1)
-  prim_behind (LeafPrim p e) ts = Ok (e, ts)
-  prim_behind (OldPrim p) ts = old d w p ts
-  prim_behind (NewPrim p) ts = new d w p ts
-  prim_behind (QuantifierPrim p q) ts = quantified d w p q ts
+  unfoldable pub prim_after : PrimHead → Gets ExprTree
+  prim_after (ParenPrim p) ts = paren_end (w TheExpression) ts >>= λ e. Ok (ParenOf p e.0, e.1)
+  prim_after (LeafPrim p e) ts = Ok (e, ts)
+  prim_after (OldPrim p) ts = old d w p ts
+  prim_after (NewPrim p) ts = new d w p ts
+  prim_after (QuantifierPrim p q) ts = quantified d w p q ts
 
   unfoldable pub prim : Gets ExprTree
-  prim = take (tokened prim_head) (λ x. opened (prim_opens x.0) d (prim_behind x.0) x.1)
+  prim = take (tokened prim_head) (λ x. opened (prim_opens x.0) d (prim_after x.0) x.1)
 
-  unfoldable pub post_behind : PrimHead → Gets ExprTree
-  post_behind h ts = prim_behind h ts >>= λ e. postfixes d w (prim_place h) e.0 e.1
+  unfoldable pub post_after : PrimHead → Gets ExprTree
+  post_after h ts = prim_after h ts >>= λ e. postfixes d w (prim_place h) e.0 e.1
 
   unfoldable pub post : Gets ExprTree
-  post = take (tokened prim_head) (λ x. opened (prim_opens x.0) d (post_behind x.0) x.1)
+  post = take (tokened prim_head) (λ x. opened (prim_opens x.0) d (post_after x.0) x.1)
 
-  unfoldable pub simple_behind : ExprTree → SimpleHead → Gets SimpleTree
-  simple_behind a (AssignHead op) ts = whole_expression d w ts >>= λ e. Ok (AssignOf a op e.0, e.1)
-  simple_behind a (StepHead op) ts = Ok (StepOf a op, ts)
+  unfoldable pub simple_after : ExprTree → SimpleHead → Gets SimpleTree
+  simple_after a (AssignHead op) ts = whole_expression d w ts >>= λ e. Ok (AssignOf a op e.0, e.1)
+  simple_after a (StepHead op) ts = Ok (StepOf a op, ts)
 
   unfoldable pub simple_end : ExprTree → Gets SimpleTree
-  simple_end a = maybe simple_head (simple_behind a) (AloneOf a)
+  simple_end a = maybe simple_head (simple_after a) (AloneOf a)
 
   unfoldable pub simple : Gets SimpleTree
   simple ts = post ts >>= λ a. simple_end a.0 a.1
@@ -96,25 +96,25 @@ module _ (d : ℕ) (w : Inner) where
   next_behind n NextBang ts = declaration (type_of (head_of n) false true) ts
   next_behind n NextBracket ts = element_or_declared n ts
 
-  unfoldable pub name_behind : NameTree → Gets ForInitTree
-  name_behind n = choose (is next_head) (take (tokened next_head) (λ x. opened (next_opens x.0) d (next_behind n x.0) x.1)) (simple_from n.place (named n))
+  unfoldable pub name_after : NameTree → Gets ForInitTree
+  name_after n = choose (is next_head) (take (tokened next_head) (λ x. opened (next_opens x.0) d (next_behind n x.0) x.1)) (simple_from n.place (named n))
 
-  unfoldable pub start_behind : StartHead → Gets ForInitTree
-  start_behind (TypeFirst t) ts = type_end d t ts >>= λ t. declaration t.0 t.1
-  start_behind (NameFirst n) ts = name_behind n ts
-  start_behind (PrimFirst h) ts = post_behind h ts >>= λ a. simple_then a.0 a.1
+  unfoldable pub start_after : StartHead → Gets ForInitTree
+  start_after (TypeFirst t) ts = type_end d t ts >>= λ t. declaration t.0 t.1
+  start_after (NameFirst n) ts = name_after n ts
+  start_after (PrimFirst h) ts = post_after h ts >>= λ a. simple_then a.0 a.1
 
   unfoldable pub for_init : Gets ForInitTree
-  for_init = take (tokened start_head) (λ x. opened (start_opens x.0) d (start_behind x.0) x.1)
+  for_init = take (tokened start_head) (λ x. opened (start_opens x.0) d (start_after x.0) x.1)
 
 module _ (d : ℕ) (w : Inner) (s : Nesting) where
   -- ---- blocks and governed statements
 
-  unfoldable pub block_behind : Place → Gets BlockTree
-  block_behind p ts = s TheStatements ts >>= λ b. Ok (BlockOf p b.0.statements b.0.end, b.1)
+  unfoldable pub block_after : Place → Gets BlockTree
+  block_after p ts = s TheStatements ts >>= λ b. Ok (BlockOf p b.0.statements b.0.end, b.1)
 
   unfoldable pub inner_block : Gets BlockTree
-  inner_block = take (the symbol.OpenBrace) block_behind
+  inner_block = take (the symbol.OpenBrace) block_after
 
   unfoldable pub in_block : Gets StmtTree
   in_block ts = inner_block ts >>= λ b. Ok (InBlock b.0, b.1)
@@ -159,22 +159,22 @@ module _ (d : ℕ) (w : Inner) (s : Nesting) where
   -- ---- statements
 
   unfoldable pub start_end : StartHead → Gets StmtTree
-  start_end h ts = start_behind d w h ts >>= λ i. take (the symbol.Semicolon) (λ _. give (statement_of i.0)) i.1
+  start_end h ts = start_after d w h ts >>= λ i. take (the symbol.Semicolon) (λ _. give (statement_of i.0)) i.1
 
-  unfoldable pub stmt_behind : StmtHead → Gets StmtTree
-  stmt_behind (BlockFirst p) ts = block_behind p ts >>= λ b. Ok (InBlock b.0, b.1)
-  stmt_behind (StartFirst h) ts = start_end h ts
-  stmt_behind (IfFirst p) ts = take (tokened (or_left_out (the symbol.Open))) (held d (λ _. if_end p) (EmptyOf p)) ts
-  stmt_behind (WhileFirst p) ts = take (tokened (or_left_out (the symbol.Open))) (held d (λ _. while_end p) (EmptyOf p)) ts
-  stmt_behind (ForFirst p) ts = take (tokened (or_left_out (the symbol.Open))) (held d (λ _. for_end p) (EmptyOf p)) ts
-  stmt_behind (ReturnFirst p) ts = optional symbol.Semicolon (whole_expression d w) ts >>= λ e. Ok (ReturnOf p e.0, e.1)
-  stmt_behind (AssertFirst p) ts = ended (whole_expression d w) ts >>= λ e. Ok (AssertOf p e.0, e.1)
-  stmt_behind (AssumeFirst p) ts = ended (whole_expression d w) ts >>= λ e. Ok (AssumeOf p e.0, e.1)
-  stmt_behind (ExposeFirst p) ts = take (tokened (or_left_out (the symbol.Open))) (held d (λ _. expose_end p) (EmptyOf p)) ts
-  stmt_behind (EmptyFirst p) ts = Ok (EmptyOf p, ts)
+  unfoldable pub stmt_after : StmtHead → Gets StmtTree
+  stmt_after (BlockFirst p) ts = block_after p ts >>= λ b. Ok (InBlock b.0, b.1)
+  stmt_after (StartFirst h) ts = start_end h ts
+  stmt_after (IfFirst p) ts = take (tokened (or_left_out (the symbol.Open))) (held d (λ _. if_end p) (EmptyOf p)) ts
+  stmt_after (WhileFirst p) ts = take (tokened (or_left_out (the symbol.Open))) (held d (λ _. while_end p) (EmptyOf p)) ts
+  stmt_after (ForFirst p) ts = take (tokened (or_left_out (the symbol.Open))) (held d (λ _. for_end p) (EmptyOf p)) ts
+  stmt_after (ReturnFirst p) ts = optional symbol.Semicolon (whole_expression d w) ts >>= λ e. Ok (ReturnOf p e.0, e.1)
+  stmt_after (AssertFirst p) ts = ended (whole_expression d w) ts >>= λ e. Ok (AssertOf p e.0, e.1)
+  stmt_after (AssumeFirst p) ts = ended (whole_expression d w) ts >>= λ e. Ok (AssumeOf p e.0, e.1)
+  stmt_after (ExposeFirst p) ts = take (tokened (or_left_out (the symbol.Open))) (held d (λ _. expose_end p) (EmptyOf p)) ts
+  stmt_after (EmptyFirst p) ts = Ok (EmptyOf p, ts)
 
   abbrev pub one_stmt : StmtHead × Piece → Gets StmtTree
-  one_stmt x = opened (stmt_opens x.0) d (stmt_behind x.0) x.1
+  one_stmt x = opened (stmt_opens x.0) d (stmt_after x.0) x.1
 
   unfoldable pub other : Gets StmtTree
   other = take (tokened other_head) one_stmt
@@ -213,4 +213,4 @@ nested_below (suc d) = nested d
 
 -- reading a block at depth d
 unfoldable pub block : ℕ → Gets BlockTree
-block d = take (tokened (or_left_out (the symbol.OpenBrace))) (held d (block_behind d (below d) (nested_below d)) left_out_block)
+block d = take (tokened (or_left_out (the symbol.OpenBrace))) (held d (block_after d (below d) (nested_below d)) left_out_block)

@@ -24,7 +24,7 @@ abbrev pub Leveled : (Bool → Parts → List Piece → ForInitTree → Type 0) 
 Leveled P zero = P false NoParts
 Leveled P (suc d) = P true (AtLevel d)
 
--- a type and a name behind it
+-- a type and a name after it
 abbrev pub TypeAndName : Bool → List Piece → NameTree → Type 0
 TypeAndName o = Bind (AnyType o) (λ t. AnyName)
 

@@ -121,13 +121,13 @@ ends (b ∷ before) h =
     ap (λ i. take i (b ∷ (before ++ h ∷ []))) n ∙ ap (λ r. b ∷ r) (ends before h)
 
 -- all but the last, where the part from m on is known
-pub behind_split : {X : Type 0} (m : ℕ) (hs before : List X) (h : X) → m ≤ length hs → drop m hs ≡ before ++ h ∷ [] → (hs ≡ take (length hs - 1) hs ++ h ∷ []) × (drop m (take (length hs - 1) hs) ≡ before) × (m ≤ length (take (length hs - 1) hs))
-behind_split zero hs before h l e =
+pub after_split : {X : Type 0} (m : ℕ) (hs before : List X) (h : X) → m ≤ length hs → drop m hs ≡ before ++ h ∷ [] → (hs ≡ take (length hs - 1) hs ++ h ∷ []) × (drop m (take (length hs - 1) hs) ≡ before) × (m ≤ length (take (length hs - 1) hs))
+after_split zero hs before h l e =
     let t : take (length hs - 1) hs ≡ before = ap (λ xs. take (length xs - 1) xs) e ∙ ends before h in
     (e ∙ ap (λ b. b ++ h ∷ []) (sym t), t, omega arith)
-behind_split (suc m) [] before h l e = absurd (omega (arith, l))
-behind_split (suc m) (x ∷ xs) before h l e =
-    let r = behind_split m xs before h (omega (arith, l)) e in
+after_split (suc m) [] before h l e = absurd (omega (arith, l))
+after_split (suc m) (x ∷ xs) before h l e =
+    let r = after_split m xs before h (omega (arith, l)) e in
     let some = ap length r.0 ∙ length-append (take (length xs - 1) xs) (h ∷ []) in
     let k : length (x ∷ xs) - 1 ≡ suc (length xs - 1) = omega (arith, some) in
     let t : take (length (x ∷ xs) - 1) (x ∷ xs) ≡ x ∷ take (length xs - 1) xs = ap (λ i. take i (x ∷ xs)) k in
@@ -154,7 +154,7 @@ content_dropped ms m hs cs ds c is below w has =
 pub header_trimmed : (ms : List Mark) (hs ks : List OldHeader) (cs : List OldContent) (before : List OldHeader) (h : OldHeader) (n : ℕ) → headers_of (segments ms hs cs) ≡ before ++ h ∷ [] → n ≡ count_of (segments ms hs cs) → AreWithin ms (length hs) (length cs) → (not (nat_lt h.position n) || is_some (header_of before h.position)) ≡ true → ks ≡ take (length hs - 1) hs → AreWithin ms (length ks) (length cs) × AreSame (segments ms hs cs) (segments ms ks cs)
 header_trimmed [] hs ks cs before h n last count w has is = absurd (not_empty before h last)
 header_trimmed (m ∷ ms) hs ks cs before h n last count w has is =
-    let r = behind_split m.headers hs before h w.0 last in
+    let r = after_split m.headers hs before h w.0 last in
     let split : hs ≡ ks ++ h ∷ [] = r.0 ∙ ap (λ xs. xs ++ h ∷ []) (sym is) in
     let below : m.headers ≤ length ks = subst (λ xs. m.headers ≤ length xs) (sym is) r.2 in
     let these : drop m.headers ks ≡ before = ap (drop m.headers) is ∙ r.1 in
@@ -166,7 +166,7 @@ header_trimmed (m ∷ ms) hs ks cs before h n last count w has is =
 pub content_trimmed : (ms : List Mark) (hs : List OldHeader) (cs ds before : List OldContent) (c : OldContent) (n : ℕ) → contents_of (segments ms hs cs) ≡ before ++ c ∷ [] → n ≡ count_of (segments ms hs cs) → AreWithin ms (length hs) (length cs) → (not (nat_lt c.position n) || is_some (content_of before c.position)) ≡ true → ds ≡ take (length cs - 1) cs → AreWithin ms (length hs) (length ds) × AreSame (segments ms hs cs) (segments ms hs ds)
 content_trimmed [] hs cs ds before c n last count w has is = absurd (not_empty before c last)
 content_trimmed (m ∷ ms) hs cs ds before c n last count w has is =
-    let r = behind_split m.contents cs before c w.1 last in
+    let r = after_split m.contents cs before c w.1 last in
     let split : cs ≡ ds ++ c ∷ [] = r.0 ∙ ap (λ xs. xs ++ c ∷ []) (sym is) in
     let below : m.contents ≤ length ds = subst (λ xs. m.contents ≤ length xs) (sym is) r.2 in
     let these : drop m.contents ds ≡ before = ap (drop m.contents) is ∙ r.1 in

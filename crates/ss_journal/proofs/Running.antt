@@ -10,7 +10,7 @@ use Rattle.ss_journal.specs.Shapes.{OldContent, Segment}
 use Rattle.ss_journal.specs.Undo.{header_of, content_of, headers_of, contents_of}
 use Rattle.ss_journal.specs.Places.{place_of, at_place}
 use Rattle.ss_journal.specs.Marks.{segments, AreWithin, IsLog, header_positions, content_positions}
-use Rattle.ss_journal.proofs.Marks.{newest as newest_mark, behind_split}
+use Rattle.ss_journal.proofs.Marks.{newest as newest_mark, after_split}
 
 take_map : {X : Type 0} (f : X → ℕ) (n : ℕ) (xs : List X) → take n (map f xs) ≡ map f (take n xs)
 take_map f zero xs = refl
@@ -83,7 +83,7 @@ header_logged xs ds hs cs ps rs now m q log same item view =
 pub header_repeats : (xs ds : List Mark) (hs : List OldHeader) (cs : List OldContent) (ps rs : List ℕ) (now : List Segment) (m : Mark) (b : Bool) (before : List OldHeader) (last : OldHeader) → IsLog (reverse xs) hs cs ps rs → ds ≡ xs → Some m ≡ slice_get ds (length ds - 1) → segments (reverse xs) hs cs ≡ now → ((ys : List ℕ) (q : ℕ) → ps ≡ ys ++ q ∷ [] → b ≡ is_some (place_of (drop m.headers ys) q)) → headers_of now ≡ before ++ last ∷ [] → b ≡ is_some (header_of before last.position)
 header_repeats xs ds hs cs ps rs now m b before last log same item view repeats is =
     let within : AreWithin (m ∷ reverse (take (length xs - 1) xs)) (length hs) (length cs) = subst (λ ms. AreWithin ms (length hs) (length cs)) (newest_mark xs m (marked xs ds m same item)) log.within in
-    let split = behind_split m.headers hs before last within.0 (sym (running_headers xs ds hs cs now m same item view) ∙ is) in
+    let split = after_split m.headers hs before last within.0 (sym (running_headers xs ds hs cs now m same item view) ∙ is) in
     let rest = take (length hs - 1) hs in
     repeats (header_positions rest) last.position (log.headers ∙ ap header_positions split.0 ∙ map-append (λ (h : OldHeader). h.position) rest (last ∷ []))
     ∙ ap (λ zs. is_some (place_of zs last.position)) (drop-map (λ (h : OldHeader). h.position) m.headers rest ∙ ap header_positions split.1)
@@ -128,7 +128,7 @@ content_logged xs ds hs cs ps rs now m q log same item view =
 pub content_repeats : (xs ds : List Mark) (hs : List OldHeader) (cs : List OldContent) (ps rs : List ℕ) (now : List Segment) (m : Mark) (b : Bool) (before : List OldContent) (last : OldContent) → IsLog (reverse xs) hs cs ps rs → ds ≡ xs → Some m ≡ slice_get ds (length ds - 1) → segments (reverse xs) hs cs ≡ now → ((ys : List ℕ) (q : ℕ) → rs ≡ ys ++ q ∷ [] → b ≡ is_some (place_of (drop m.contents ys) q)) → contents_of now ≡ before ++ last ∷ [] → b ≡ is_some (content_of before last.position)
 content_repeats xs ds hs cs ps rs now m b before last log same item view repeats is =
     let within : AreWithin (m ∷ reverse (take (length xs - 1) xs)) (length hs) (length cs) = subst (λ ms. AreWithin ms (length hs) (length cs)) (newest_mark xs m (marked xs ds m same item)) log.within in
-    let split = behind_split m.contents cs before last within.1 (sym (running_contents xs ds hs cs now m same item view) ∙ is) in
+    let split = after_split m.contents cs before last within.1 (sym (running_contents xs ds hs cs now m same item view) ∙ is) in
     let rest = take (length cs - 1) cs in
     repeats (content_positions rest) last.position (log.contents ∙ ap content_positions split.0 ∙ map-append (λ (h : OldContent). h.position) rest (last ∷ []))
     ∙ ap (λ zs. is_some (place_of zs last.position)) (drop-map (λ (h : OldContent). h.position) m.contents rest ∙ ap content_positions split.1)

@@ -90,9 +90,9 @@ content_same (Some h) b o x is = refl
 content_same None true o x is = let e = is refl in rw (e.fields, e.elements) refl
 content_same None false o x is = refl
 
-content_behind : (r : Option OldHeader) (o : OldContent) (x : Object) → IsContentOf o x → IsContentOf o (with_header r x)
-content_behind None o x is = is
-content_behind (Some h) o x is = record { fields = is.fields; elements = is.elements }
+content_after : (r : Option OldHeader) (o : OldContent) (x : Object) → IsContentOf o x → IsContentOf o (with_header r x)
+content_after None o x is = is
+content_after (Some h) o x is = record { fields = is.fields; elements = is.elements }
 
 object_is : (s : List Object) (n q p : ℕ) (x : Object) → slice_get (take n s) q ≡ Some x → (q == p) ≡ true → object_at s p ≡ x
 object_is s n q p x e b =
@@ -126,7 +126,7 @@ content_logged s (g ∷ gs) o is = record {
       (same_changed _ (restored g) (take g.count s)
       (λ q x e. ap (λ r. with_content r (with_header (header_of g.headers q) x)) (content_more g.contents o q)
       ∙ content_same (content_of g.contents q) (q == o.position) o (with_header (header_of g.headers q) x)
-      (λ b. content_behind (header_of g.headers q) o x (subst (IsContentOf o) (object_is s g.count q o.position x e b) is))));
+      (λ b. content_after (header_of g.headers q) o x (subst (IsContentOf o) (object_is s g.count q o.position x e b) is))));
   counts = refl;
   headers = λ q e. e;
   contents = λ q e. ap (λ r. not (nat_lt q g.count) || is_some r) (content_more g.contents o q) ∙ or_some (not (nat_lt q g.count)) (content_of g.contents q) (if q == o.position then Some o else None) e;

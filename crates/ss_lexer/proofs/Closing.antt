@@ -1,11 +1,11 @@
--- Where strings and comments end, whatever stands behind.
+-- Where strings and comments end, whatever stands after.
 use Rattle.std.proofs.Common.{ℕ, suc, ◌≡◌, ◌<◌, Bool, true, false, ⊎_elim, List, [], ◌∷◌, ◌++◌, length, Option, Some, None, option_map, refl, sym, ap, ◌∙◌, arith, append_assoc}
 use Rattle.std.specs.Prelude.{◌&&◌, ◌==◌, not, if◌then◌else◌}
 use Rattle.std.proofs.lemmas.Bool.{and_parts}
 use Rattle.ss_lexer.specs.Lexemes.{first_is, comment_end, string_end}
 use Rattle.ss_lexer.proofs.Choice.{if_cases, option_cases}
 
--- e finds its end behind the first n bytes, and would with anything else behind them
+-- e finds its end after the first n bytes, and would with anything else after them
 pub record Closes (e : List ℕ → Option ℕ) (cs : List ℕ) (n : ℕ) : Type 0 where
   pub inside : List ℕ
   pub outside : List ℕ

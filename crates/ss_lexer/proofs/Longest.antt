@@ -12,7 +12,7 @@ use Rattle.ss_lexer.specs.Fronts.{first_beginning}
 use Rattle.ss_lexer.specs.Pieces.{when, is_empty, string_form, comment_form, symbol_form, slash_form, form_of, IsFirst}
 use Rattle.ss_lexer.specs.Fronts.{StandsFirst, string_front, comment_front, symbol_front, slash_front, front_of}
 use Rattle.ss_lexer.proofs.Choice.{by_if, when_some, when_true, option_cases}
-use Rattle.ss_lexer.proofs.Runs.{run, all_behind}
+use Rattle.ss_lexer.proofs.Runs.{run, all_after}
 use Rattle.ss_lexer.proofs.Closing.{Closes, string_closes, comment_closes, still_open}
 use Rattle.ss_lexer.proofs.Tables.{falling, take_front, drop_front, longest, none_begins, found}
 
@@ -21,7 +21,7 @@ pub record Front (source : List ℕ) (x : Form × ℕ) : Type 0 where
   pub within : x.1 ≤ length source
   pub some : 0 < x.1
 
--- more of what stands behind a text makes no piece of it
+-- more of what stands after a text makes no piece of it
 abbrev Longest : List ℕ → List ℕ → Type 0
 Longest text rest = (more others : List ℕ) → rest ≡ more ++ others → IsSome (form_of (text ++ more)) → more ≡ []
 
@@ -61,7 +61,7 @@ run_front p f h cs forms =
     (forms r.inside ∙ when_true (list_all p r.inside) f r.passes)
     (λ more others e some.
     let whole : form_of ((h ++ r.inside) ++ more) ≡ when (list_all p (r.inside ++ more)) f = ap form_of (append_assoc h r.inside more) ∙ forms (r.inside ++ more) in
-    r.stops more others e (all_behind p r.inside more (when_some (list_all p (r.inside ++ more)) f (subst IsSome whole some))))
+    r.stops more others e (all_after p r.inside more (when_some (list_all p (r.inside ++ more)) f (subst IsSome whole some))))
 
 -- one byte
 one_front : (f : Form) (c : ℕ) (cs : List ℕ) → ((ds : List ℕ) → form_of (c ∷ ds) ≡ when (is_empty ds) f) → Front (c ∷ cs) (f, 1)
@@ -98,7 +98,7 @@ open_front h cs none forms =
     (λ more others e some.
     let parts : cs ≡ (r.inside ++ more) ++ others = r.parts ∙ ap (λ l. r.inside ++ l) e ∙ sym (append_assoc r.inside more others) in
     let whole : form_of ((h ++ r.inside) ++ more) ≡ when (on_one_line (r.inside ++ more)) form.OpenText = ap form_of (append_assoc h r.inside more) ∙ forms (r.inside ++ more) (open_ (r.inside ++ more) others parts) in
-    r.stops more others e (all_behind stays_on_line r.inside more (when_some (on_one_line (r.inside ++ more)) form.OpenText (subst IsSome whole some))))
+    r.stops more others e (all_after stays_on_line r.inside more (when_some (on_one_line (r.inside ++ more)) form.OpenText (subst IsSome whole some))))
 
 -- all that is left
 rest_front : (f : Form) (source : List ℕ) → form_of source ≡ Some f → Front source (f, length source)

@@ -8,7 +8,7 @@ use Rattle.ss_core.specs.declared.names.FrontStop.TheVariants as stop
 use Rattle.ss_ast.specs.Tokens.{Kind, AnEnd, Tok}
 use Rattle.ss_lexer.specs.declared.pieces.Form.{Form}
 use Rattle.ss_lexer.specs.declared.lexer.Lexer.{Lexer}
-use Rattle.ss_lexer.specs.Pieces.{IsFirst, Meaning, Nothing, Means, Breaks, is_minus, behind_operand, behind_sign, meaning}
+use Rattle.ss_lexer.specs.Pieces.{IsFirst, Meaning, Nothing, Means, Breaks, is_minus, after_operand, after_sign, meaning}
 use Rattle.ss_lexer.specs.Reading.{Answer, with_token, Reads, at_end, between, token, fault, start, next_place, place_after, without_mark, most_bytes, IsReadAs, Answers}
 use Rattle.ss_lexer.specs.Steps.{state, Took}
 
@@ -17,11 +17,11 @@ abbrev pub joined : List Tok → Answer → Answer
 joined ts (Ok us) = Ok (ts ++ us)
 joined ts (Err f) = Err f
 
--- The lexer stands before the rest of a source: whatever the rest is read as, the source is read as that behind the lexer's tokens.
+-- The lexer stands before the rest of a source: whatever the rest is read as, the source is read as that after the lexer's tokens.
 pub record Stands (source : List ℕ) (l : Lexer) (rest : List ℕ) : Type 0 where
   pub before : List Kind
-  pub operand : l.operand ≡ behind_operand before
-  pub signed : l.signed ≡ behind_sign before
+  pub operand : l.operand ≡ after_operand before
+  pub signed : l.signed ≡ after_sign before
   pub whole : (a : Answer) → Reads l.place before rest a → Reads start [] source (joined (state l).tokens a)
   pub lines : l.place.line + length rest ≤ 1 + length source
   pub columns : l.place.column + length rest ≤ 1 + length source
@@ -73,8 +73,8 @@ begins source l rest same place tokens operand signed = record {
 }
 
 module _ (source : List ℕ) (old new : Lexer) (f : Form) (text rest behind : List ℕ) (first : IsFirst rest f text behind) (s : Stands source old rest) where
-  -- the piece means the same behind the tokens as in the lexer
-  means : (m : Meaning) → meaning old.signed f text ≡ m → meaning (behind_sign s.before) f text ≡ m
+  -- the piece means the same after the tokens as in the lexer
+  means : (m : Meaning) → meaning old.signed f text ≡ m → meaning (after_sign s.before) f text ≡ m
   means m e = ap (λ b. meaning b f text) (sym s.signed) ∙ e
 
   lengths : length rest ≡ length text + length behind

@@ -36,6 +36,6 @@ run p [] = record { inside = []; outside = []; parts = refl; long = refl; passes
 run p (c ∷ cs) = run_more p c cs (p c) refl (run p cs)
 
 -- the end of a list that passes
-pub all_behind : (p : ℕ → Bool) (a b : List ℕ) → list_all p (a ++ b) ≡ true → list_all p b ≡ true
-all_behind p [] b h = h
-all_behind p (c ∷ cs) b h = all_behind p cs b (and_parts (p c) (list_all p (cs ++ b)) h).1
+pub all_after : (p : ℕ → Bool) (a b : List ℕ) → list_all p (a ++ b) ≡ true → list_all p b ≡ true
+all_after p [] b h = h
+all_after p (c ∷ cs) b h = all_after p cs b (and_parts (p c) (list_all p (cs ++ b)) h).1

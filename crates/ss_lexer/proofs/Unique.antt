@@ -10,7 +10,7 @@ use Rattle.ss_core.specs.declared.names.FrontStop.TheVariants as stop
 use Rattle.ss_ast.specs.declared.token.Token.{Token}
 use Rattle.ss_ast.specs.Tokens.{Kind, AnEnd, toks}
 use Rattle.ss_lexer.specs.declared.pieces.Form.{Form}
-use Rattle.ss_lexer.specs.Pieces.{form_of, IsFirst, Meaning, Nothing, Means, Breaks, behind_sign, meaning, too_long}
+use Rattle.ss_lexer.specs.Pieces.{form_of, IsFirst, Meaning, Nothing, Means, Breaks, after_sign, meaning, too_long}
 use Rattle.ss_lexer.specs.Reading.{Answer, with_token, Reads, at_end, between, token, fault, start, place_after, without_mark, most_bytes, IsReadAs, Answers, IsAnswer}
 
 -- ---- the piece at the front
@@ -75,7 +75,7 @@ record Stepped (p : Place) (before : List Kind) (source : List ℕ) (a : Answer)
   text : List ℕ
   rest : List ℕ
   first : IsFirst source form text rest
-  after : After (meaning (behind_sign before) form text) p before text rest a
+  after : After (meaning (after_sign before) form text) p before text rest a
 
 abbrev Ended : Place → List ℕ → Answer → Type 0
 Ended p source a = (source ≡ []) × (a ≡ Ok (record { kind = AnEnd; place = p } ∷ []))
@@ -87,16 +87,16 @@ parts_of {p} {before} {source} (token {a = b} f text rest k first m r) = inr (re
 parts_of {p} {before} {source} (fault f text rest rule n first m) = inr (record { form = f; text = text; rest = rest; first = first; after = subst (λ x. After x p before text rest (Err (rule, place_after p (take n text)))) (sym m) refl })
 
 -- what a second reading says at the piece of the first
-moved : (p : Place) (before : List Kind) (source : List ℕ) (b : Answer) (f : Form) (text rest : List ℕ) (m : Meaning) → IsFirst source f text rest → meaning (behind_sign before) f text ≡ m → Reads p before source b → After m p before text rest b
+moved : (p : Place) (before : List Kind) (source : List ℕ) (b : Answer) (f : Form) (text rest : List ℕ) (m : Meaning) → IsFirst source f text rest → meaning (after_sign before) f text ≡ m → Reads p before source b → After m p before text rest b
 moved p before source b f text rest m first e r =
     ⊎_elim
     (λ ended. absurd (no_first f text rest (subst (λ s. IsFirst s f text rest) ended.0 first)))
     (λ s.
     let same = same_first source f s.form text s.text rest s.rest first s.first in
-    let here : After (meaning (behind_sign before) f text) p before text rest b =
-    subst (λ x. After (meaning (behind_sign before) f text) p before text x b) (sym same.rests)
-    (subst (λ x. After (meaning (behind_sign before) f x) p before x s.rest b) (sym same.texts)
-    (subst (λ x. After (meaning (behind_sign before) x s.text) p before s.text s.rest b) (sym same.forms) s.after)) in
+    let here : After (meaning (after_sign before) f text) p before text rest b =
+    subst (λ x. After (meaning (after_sign before) f text) p before text x b) (sym same.rests)
+    (subst (λ x. After (meaning (after_sign before) f x) p before x s.rest b) (sym same.texts)
+    (subst (λ x. After (meaning (after_sign before) x s.text) p before s.text s.rest b) (sym same.forms) s.after)) in
     subst (λ x. After x p before text rest b) e here)
     (parts_of r)
 

@@ -29,7 +29,7 @@ abbrev pub symbol_front : Option (Symbol × ℕ) → Form × ℕ
 symbol_front (Some x) = (form.Symbol x.0, x.1)
 symbol_front None = (form.Stray, 1)
 
--- behind a `/`
+-- after a `/`
 abbrev pub slash_front : List ℕ → Form × ℕ
 slash_front [] = symbol_front (first_beginning symbols (47 ∷ []))
 slash_front (c ∷ cs) = if c == 47 then (form.Comment, 2 + prefix_len stays_on_line cs)

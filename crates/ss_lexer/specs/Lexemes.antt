@@ -44,12 +44,12 @@ comment_end (c ∷ cs) = if (c == 42) && first_is 47 cs then Some 2 else option_
 -- ---- strings
 
 -- how many bytes there are up to the first quote that no backslash hides, and with it, where no line ends before it;
--- a backslash hides the byte behind it, unless it is itself hidden
+-- a backslash hides the byte after it, unless it is itself hidden
 abbrev pub string_end : Bool → List ℕ → Option ℕ
 string_end hidden [] = None
 string_end hidden (c ∷ cs) = if c == 10 then None else (if (c == 34) && not hidden then Some 1 else option_map suc (string_end ((c == 92) && not hidden) cs))
 
--- the bytes that may stand behind a backslash, with the bytes that they write: `\"`, `\\`, `\n`, `\r`, `\t`, `\0`
+-- the bytes that may stand after a backslash, with the bytes that they write: `\"`, `\\`, `\n`, `\r`, `\t`, `\0`
 abbrev pub escapes : List (ℕ × ℕ)
 escapes = (34, 34) ∷ (92, 92) ∷ (110, 10) ∷ (114, 13) ∷ (116, 9) ∷ (48, 0) ∷ []
 
@@ -87,7 +87,7 @@ string_value text = value_from false (take (length text - 2) (drop 1 text))
 
 -- ---- numbers
 
--- the number that the digits write, behind those that write n
+-- the number that the digits write, after those that write n
 abbrev pub decimal_from : ℕ → List ℕ → ℕ
 decimal_from n [] = n
 decimal_from n (d ∷ ds) = decimal_from (10 * n + (d - 48)) ds

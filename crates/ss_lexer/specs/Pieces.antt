@@ -22,12 +22,12 @@ abbrev pub is_empty : List ℕ → Bool
 is_empty [] = true
 is_empty (c ∷ cs) = false
 
--- behind the first quote of a string
+-- after the first quote of a string
 abbrev pub string_form : Option ℕ → List ℕ → Option Form
 string_form (Some n) cs = when (length cs == n) form.Text
 string_form None cs = when (on_one_line cs) form.OpenText
 
--- behind the `/*` of a comment
+-- after the `/*` of a comment
 abbrev pub comment_form : Option ℕ → List ℕ → Option Form
 comment_form (Some n) cs = when (length cs == n) form.Comment
 comment_form None cs = Some form.OpenComment
@@ -36,7 +36,7 @@ abbrev pub symbol_form : Option Symbol → List ℕ → Option Form
 symbol_form (Some s) text = Some (form.Symbol s)
 symbol_form None text = when (length text == 1) form.Stray
 
--- behind a `/`
+-- after a `/`
 unfoldable pub slash_form : List ℕ → Option Form
 slash_form [] = symbol_form (look_up symbols (codes "/")) (codes "/")
 slash_form (c ∷ cs) = if c == 47 then when (on_one_line cs) form.Comment
@@ -44,7 +44,7 @@ slash_form (c ∷ cs) = if c == 47 then when (on_one_line cs) form.Comment
     else symbol_form (look_up symbols (47 ∷ c ∷ cs)) (47 ∷ c ∷ cs))
 
 -- What piece a text is, by its first byte: a word of letters, digits and `_`; a number of digits; one blank byte; a string,
--- or a quote and what stands behind it on its line where none closes it; a comment to the end of its line; a comment up to the first
+-- or a quote and what stands after it on its line where none closes it; a comment to the end of its line; a comment up to the first
 -- `*/`, or all that is left where there is none; a symbol; a byte that is nothing else.
 unfoldable pub form_of : List ℕ → Option Form
 form_of [] = None
@@ -55,7 +55,7 @@ form_of (c ∷ cs) = if is_letter c then when (list_all is_word_byte cs) form.Wo
     else (if c == 47 then slash_form cs
     else symbol_form (look_up symbols (c ∷ cs)) (c ∷ cs)))))
 
--- The source has this piece at its front, and with more of what stands behind it the text is no piece: the longest counts.
+-- The source has this piece at its front, and with more of what stands after it the text is no piece: the longest counts.
 pub record IsFirst (source : List ℕ) (f : Form) (text rest : List ℕ) : Type 0 where
   pub parts : source ≡ text ++ rest
   pub piece : form_of text ≡ Some f
@@ -63,7 +63,7 @@ pub record IsFirst (source : List ℕ) (f : Form) (text rest : List ℕ) : Type 
 
 -- ---- what a piece means
 
--- A piece separates tokens, or is a token, or breaks the rule of this number behind so many of its bytes.
+-- A piece separates tokens, or is a token, or breaks the rule of this number after so many of its bytes.
 pub data Meaning : Type 0 where
   Nothing : Meaning
   Means : Kind → Meaning
@@ -124,25 +124,25 @@ is_minus (AText t) = false
 is_minus AnEnd = false
 
 -- of the tokens before a place, the nearest first: an operand ends there
-abbrev pub behind_operand : List Kind → Bool
-behind_operand [] = false
-behind_operand (k ∷ ks) = ends_operand k
+abbrev pub after_operand : List Kind → Bool
+after_operand [] = false
+after_operand (k ∷ ks) = ends_operand k
 
--- the nearest is a `-` that stands behind no operand
-abbrev pub behind_sign : List Kind → Bool
-behind_sign [] = false
-behind_sign (k ∷ ks) = is_minus k && not (behind_operand ks)
+-- the nearest is a `-` that stands after no operand
+abbrev pub after_sign : List Kind → Bool
+after_sign [] = false
+after_sign (k ∷ ks) = is_minus k && not (after_operand ks)
 
--- 2147483648 stands only behind a sign
+-- 2147483648 stands only after a sign
 abbrev pub number_meaning : Bool → ℕ → Meaning
 number_meaning signed n = if nat_le n 2147483647 then Means (ANumber n)
     else (if (n == 2147483648) && signed then Means (ANumber n) else Breaks big_number 0)
 
--- where only so many bytes of the text are in order, a bad byte stands behind them
+-- where only so many bytes of the text are in order, a bad byte stands after them
 abbrev pub sound_or_bad : ℕ → List ℕ → Meaning → Meaning
 sound_or_bad n text m = if n == length text then m else Breaks bad_byte n
 
--- what a piece means, behind a sign or not
+-- what a piece means, after a sign or not
 abbrev pub meaning : Bool → Form → List ℕ → Meaning
 meaning signed form.Space text = Nothing
 meaning signed form.Comment text = sound_or_bad (utf8_valid_len text) text Nothing

@@ -8,7 +8,7 @@ use Rattle.ss_core.specs.declared.names.FrontStop.TheVariants as stop
 use Rattle.ss_ast.specs.declared.token.Token.{Token}
 use Rattle.ss_ast.specs.Tokens.{Kind, AnEnd, Tok, toks}
 use Rattle.ss_lexer.specs.declared.pieces.Form.{Form}
-use Rattle.ss_lexer.specs.Pieces.{IsFirst, Nothing, Means, Breaks, behind_sign, meaning, too_long}
+use Rattle.ss_lexer.specs.Pieces.{IsFirst, Nothing, Means, Breaks, after_sign, meaning, too_long}
 
 -- ---- places
 
@@ -38,18 +38,18 @@ abbrev pub with_token : Tok → Answer → Answer
 with_token t (Ok ts) = Ok (t ∷ ts)
 with_token t (Err fault) = Err fault
 
--- What a source is read as from a place on, behind these tokens, the nearest first. The end of the text is a token. A piece at the front
+-- What a source is read as from a place on, after these tokens, the nearest first. The end of the text is a token. A piece at the front
 -- stands between tokens, or is a token, or is the fault.
 pub data Reads : Place → List Kind → List ℕ → Answer → Type 0 where
   at_end : {p : Place} {before : List Kind} → Reads p before [] (Ok (record { kind = AnEnd; place = p } ∷ []))
   between : {p : Place} {before : List Kind} {source : List ℕ} {a : Answer} (f : Form) (text rest : List ℕ) →
-      IsFirst source f text rest → meaning (behind_sign before) f text ≡ Nothing →
+      IsFirst source f text rest → meaning (after_sign before) f text ≡ Nothing →
       Reads (place_after p text) before rest a → Reads p before source a
   token : {p : Place} {before : List Kind} {source : List ℕ} {a : Answer} (f : Form) (text rest : List ℕ) (k : Kind) →
-      IsFirst source f text rest → meaning (behind_sign before) f text ≡ Means k →
+      IsFirst source f text rest → meaning (after_sign before) f text ≡ Means k →
       Reads (place_after p text) (k ∷ before) rest a → Reads p before source (with_token (record { kind = k; place = p }) a)
   fault : {p : Place} {before : List Kind} {source : List ℕ} (f : Form) (text rest : List ℕ) (rule n : ℕ) →
-      IsFirst source f text rest → meaning (behind_sign before) f text ≡ Breaks rule n →
+      IsFirst source f text rest → meaning (after_sign before) f text ≡ Breaks rule n →
       Reads p before source (Err (rule, place_after p (take n text)))
 
 -- how many bytes a source has at most

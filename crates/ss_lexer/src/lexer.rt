@@ -15,7 +15,7 @@ use std::alloc::{AllocError, Global};
 /// The most bytes that a source may have.
 pub const MAX_BYTES: usize = 1_048_576;
 
-// The place behind the byte.
+// The place after the byte.
 fn next_place(place: Place, byte: u8) -> Place
     requires lines { place.line + 1 < 2 ^ 32 }
     requires columns { place.column + 1 < 2 ^ 32 }
@@ -34,7 +34,7 @@ fn next_place(place: Place, byte: u8) -> Place
     }
 }
 
-// The place behind the bytes.
+// The place after the bytes.
 fn place_after(place: Place, bytes: &[u8]) -> Place
     requires lines { place.line + length bytes.now < 2 ^ 32 }
     requires columns { place.column + length bytes.now < 2 ^ 32 }
@@ -67,7 +67,7 @@ pub struct Lexer {
     place: Place,
     // The last token ends an operand.
     operand: bool,
-    // The last token is a `-` behind no operand.
+    // The last token is a `-` after no operand.
     signed: bool,
 }
 

@@ -36,7 +36,7 @@ pub fn utf8_length(bytes: &[u8]) -> usize
     }
 }
 
-// The byte that an escape writes, by the byte behind its backslash.
+// The byte that an escape writes, by the byte after its backslash.
 fn escaped(byte: u8) -> Option<u8>
     ensures { result ≡ written_by escapes byte }
 {

@@ -20,7 +20,7 @@ pub enum Meaning {
     /// It only separates tokens.
     Nothing,
     Token(TokenKind),
-    /// The rule of this number is broken, behind so many of its bytes.
+    /// The rule of this number is broken, after so many of its bytes.
     Fault(u16, usize),
 }
 

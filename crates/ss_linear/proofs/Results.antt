@@ -99,7 +99,7 @@ pub refute_more : (cs : List ClassTree) (known : List Formula) (s : ℤ × List 
 refute_more cs known s [] f e h = absurd h
 refute_more cs known s (r ∷ ss) f e h = (f, e, h)
 
--- one more part behind others
+-- one more part after others
 next_after : (before ps : List (Term × ℤ)) (p : Term × ℤ) → AreNext before ps → IsNext (before ++ ps) p → AreNext before (ps ++ p ∷ [])
 next_after before [] p h k = (subst (λ rs. IsNext rs p) (append-nil before) k, tt)
 next_after before (q ∷ ps) p h k = (h.0, next_after (before ++ q ∷ []) ps p h.1 (subst (λ rs. IsNext rs p) (sym (append_assoc before (q ∷ []) ps)) k))

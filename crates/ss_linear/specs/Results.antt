@@ -19,11 +19,11 @@ abbrev pub AreOthers : Term → List (Term × ℤ) → Type 0
 AreOthers t [] = Unit {0}
 AreOthers t (p ∷ ps) = (same_term p.0 t ≡ false) × AreOthers t ps
 
--- a part that may stand behind others: its term is no sum, and no part before it has it
+-- a part that may stand after others: its term is no sum, and no part before it has it
 abbrev pub IsNext : List (Term × ℤ) → Term × ℤ → Type 0
 IsNext before p = (linear p.0 ≡ Some (term_sum p.0)) × (is_within p.1 ≡ true) × AreOthers p.0 before
 
--- such parts, one behind the other
+-- such parts, one after the other
 abbrev pub AreNext : List (Term × ℤ) → List (Term × ℤ) → Type 0
 AreNext before [] = Unit {0}
 AreNext before (p ∷ ps) = IsNext before p × AreNext (before ++ p ∷ []) ps

@@ -56,7 +56,7 @@ fn add_equalities(
     Ok(())
 }
 
-/// The same, and behind it what the equality of each pair of terms says.
+/// The same, and after it what the equality of each pair of terms says.
 pub(crate) fn read_all(
     alloc: Global,
     bank: &Bank,

@@ -98,7 +98,7 @@ pub fn refute(
     contradiction(alloc, bank, &mut read)
 }
 
-/// The same over known facts and behind them equalities of two terms, which the bank needn't have as formulas. No other sums are looked for
+/// The same over known facts and after them equalities of two terms, which the bank needn't have as formulas. No other sums are looked for
 /// than those of one or two facts and of differences.
 pub fn refute_with(
     alloc: Global,

@@ -302,7 +302,7 @@ fn is_last(
     Ok(is_false(&total))
 }
 
-// Whether there is a sum behind the one at a place.
+// Whether there is a sum after the one at a place.
 fn has_next(sums: &[Sum], i: usize) -> bool
     requires { i < length sums.now }
     ensures { IsFalse result → length sums.now ≤ i + 1 }

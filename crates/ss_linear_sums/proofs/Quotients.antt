@@ -64,7 +64,7 @@ module _ (b : Forms) (d : ℤ) (ps : List Part) (i : ℕ) (x : Part) (l : i < le
   pub divided_some : (qs : List Part) (rest : List (Term × ℤ)) → divided_part d (get_or ps i x) ≡ Some qs → divided d (drop (i + 1) (parts_at b ps)) ≡ Some rest → divided d (drop i (parts_at b ps)) ≡ Some (parts_at b qs ++ rest)
   divided_some qs rest e f = next_divided ∙ rw (e, f) refl
 
--- parts that stand behind others
+-- parts that stand after others
 pub joined_parts : (b : Forms) (old qs new : List Part) (rest : List (Term × ℤ)) → new ≡ old ++ qs → parts_at b old ++ (parts_at b qs ++ rest) ≡ parts_at b new ++ rest
 joined_parts b old qs new rest e = sym (append_assoc (parts_at b old) (parts_at b qs) rest) ∙ ap (λ xs. xs ++ rest) (sym (ap (parts_at b) e ∙ map-append (part_at b) old qs))
 

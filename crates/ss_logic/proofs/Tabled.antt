@@ -59,12 +59,12 @@ slot_front (x ∷ xs) ys f h =
     (λ n. let r = slot_front xs ys f (h.0, rw (ne_eqb x.field f n) at h.1) in (r.0, rw (ne_eqb x.field f n) r.1))
     (cases_eq x.field f)
 
-slot_behind : (xs ys : List Slot) (f : ℕ) → HasSlot ys f → HasSlot (xs ++ ys) f
-slot_behind [] ys f h = h
-slot_behind (x ∷ xs) ys f h =
+slot_after : (xs ys : List Slot) (f : ℕ) → HasSlot ys f → HasSlot (xs ++ ys) f
+slot_after [] ys f h = h
+slot_after (x ∷ xs) ys f h =
     ⊎_elim
     (λ e. (x.content, rw (eq-eqb x.field f e) refl))
-    (λ n. let r = slot_behind xs ys f h in (r.0, rw (ne_eqb x.field f n) r.1))
+    (λ n. let r = slot_after xs ys f h in (r.0, rw (ne_eqb x.field f n) r.1))
     (cases_eq x.field f)
 
 -- a class has slots of its own fields
@@ -93,7 +93,7 @@ slot_among cs (t ∷ ts) f d e l =
     ⊎_elim
     (λ here. slot_front (slots_from t 0 (all_fields cs)) (flat_map (λ u. slots_from u 0 (all_fields cs)) ts) f
     (subst (λ i. HasSlot (slots_from t 0 (all_fields cs)) i) number (slot_of_class t 0 (all_fields cs) f d e (sym (eqb-true t d.class here)))))
-    (λ later. slot_behind (slots_from t 0 (all_fields cs)) (flat_map (λ u. slots_from u 0 (all_fields cs)) ts) f (slot_among cs ts f d e later))
+    (λ later. slot_after (slots_from t 0 (all_fields cs)) (flat_map (λ u. slots_from u 0 (all_fields cs)) ts) f (slot_among cs ts f d e later))
     (or_cases (eqb t d.class) (list_any (λ level. eqb level d.class) ts) l)
 
 filled_slot : (cs : List ClassTree) (x : Entry) (xs : List Slot) (f : ℕ) (v : ObjectValue) → slot_value xs f ≡ Some v → slot_value (map (filled cs x) xs) f ≡ Some (content (field_type cs f) x.fields f)

@@ -20,7 +20,7 @@ use Rattle.ss_logic_means.proofs.Sorting.{sorted_one, sorted_two, formed_one, fo
 use Rattle.ss_logic_means.proofs.Forming.{F, S, C, and_two, negation, over_formed, one_sorted}
 use Rattle.ss_logic_means.proofs.Operating.{not_null_formed}
 
--- the bound name that stands behind these
+-- the bound name that stands after these
 pub bound_sorted : (cs : List ClassTree) (bound : List Sort) (s : Sort) (n : ℕ) → length bound ≡ n → HasSort cs (bound ++ s ∷ []) s (Bound n)
 bound_sorted cs bound s n at =
     let there = subst (λ k. slice_get (bound ++ s ∷ []) k ≡ Some s) at (get_at bound s []) in

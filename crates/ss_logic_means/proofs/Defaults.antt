@@ -134,7 +134,7 @@ module _ (c : Context) (chain : IsChain c.classes) (beside : NoAlso c.classes) (
   default_term ty.Null = refl
   default_term (ty.Ref t k) = refl
 
-  -- a term for an object, whatever names are bound behind
+  -- a term for an object, whatever names are bound after
   module _ (t : Term) (o : ℕ) (l : nat_lt o h.next ≡ true) (is : (vs : List Value) → V c.classes m (e ++ vs) t ≡ thing (reference o)) where
     is_here : V c.classes m e t ≡ thing (reference o)
     is_here = subst (λ w. V c.classes m w t ≡ thing (reference o)) (append-nil e) (is [])

@@ -164,7 +164,7 @@ Type-of c x = type_of c.classes c.types x
 abbrev E : Context → List Sort → ExprTree → Type 0
 E c bound x = IsWellExpressed c.classes bound (element_sort (Type-of c x)) (defined x c) (meant x c)
 
--- An expression of another type than that of truth values may stand behind more bound names.
+-- An expression of another type than that of truth values may stand after more bound names.
 pub expressed : (among : ℕ → Bool) (x : ExprTree) (c : Context) (bound : List Sort) → IsSortedAmong among c bound → reads_plainly among x ≡ true → is_some (Type-of c x) ≡ true → (is_bool (Type-of c x) ≡ true → length bound ≡ c.bound) → E c bound x
 expressed among (IntExpr p n) c bound st none is at = (tt, typed_sorted c.classes bound (fits n) ty.Int (meant (IntExpr p n) c) is (refl, number_sorted c.classes bound n, tt))
 expressed among (BoolExpr p b) c bound st none is at = (tt, (refl, (refl, refl), tt))

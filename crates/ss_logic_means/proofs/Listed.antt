@@ -59,7 +59,7 @@ module _ (cs : List ClassTree) (m : Structure) (e : List Value) where
   or_more f fs true b x y = (λ _. refl, λ _ n. n.0 (x.1 refl))
   or_more f fs false b x y = (λ t. y.0 (λ n. t ((λ k. false≢true (x.0 k)), n)), λ z n. y.1 z n.1)
 
-  -- ---- terms whose value doesn't rest on the names bound behind
+  -- ---- terms whose value doesn't rest on the names bound after
 
   none_staying : (f : Term → Formula) (v : Value) (b : Bool) → ((t : Term) → ((vs : List Value) → V cs m (e ++ vs) t ≡ v) → M cs m e (f t) b) → (b ≡ true → ⊥) → (xs : List Choice) → Agree cs m e xs v → Stay cs m e xs →
       NoneTrue cs m e (formulas_from (map (λ c. and_of (c.condition ∷ f c.value ∷ [])) xs))

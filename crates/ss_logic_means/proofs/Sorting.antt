@@ -94,7 +94,7 @@ module _ (cs : List ClassTree) where
         let p = and_parts (is_well_formed cs bound f) (are_well_formed cs bound fs) h in
         and_from (is_well_formed cs bound (neg f)) (are_well_formed cs bound (neg_all fs)) (neg_formed bound f p.0) (negs_formed bound fs p.1)
 
--- ---- a term has its sort at more bound names behind
+-- ---- a term has its sort at more bound names after
 
 module _ (cs : List ClassTree) (bound more : List Sort) where
   bound_more : (k : ℕ) → nat_lt k (length bound) ≡ true → HasSort cs (bound ++ more) (sort_of cs bound (Bound k)) (Bound k)

@@ -48,7 +48,7 @@ pub length_more : {A : Type 0} (xs : List A) (z : A) → length (xs ++ z ∷ [])
 length_more [] z = refl
 length_more (x ∷ xs) z = ap suc (length_more xs z)
 
--- the value of the bound name that stands behind these
+-- the value of the bound name that stands after these
 pub argument_at : (e : List Value) (v : Value) (vs : List Value) (n : ℕ) → length e ≡ n → argument (e ++ v ∷ vs) n ≡ v
 argument_at e v vs n h = subst (λ k. argument (e ++ v ∷ vs) k ≡ v) h (ap (λ o. unwrap_or o (thing null)) (get_at e v vs))
 

@@ -39,7 +39,7 @@ default_sorted cs bound ty.Bool = (refl, refl)
 default_sorted cs bound ty.Null = (refl, refl)
 default_sorted cs bound (ty.Ref t n) = (refl, refl)
 
--- with one more object bound behind
+-- with one more object bound after
 module _ (among : ℕ → Bool) (c : Context) (bound : List Sort) (st : IsSortedAmong among c bound) (at : length bound ≡ c.bound) where
   abbrev More : List Sort
   More = bound ++ sort.Rest ∷ []

@@ -81,7 +81,7 @@ module _ (among : ℕ → Bool) (m : Structure) (now entry : Heap) where
     int_fits : (x : ExprTree) → is_int (type_of c.classes c.types x) ≡ true → (u : ObjectValue) → run.value_of x (setting_of m c now entry locals) ≡ Ok u → fits (as_int u) ≡ true
     int_fits x h u is = int_typed c.classes (objects_of c.classes m.table now) u (typed.gives_int m (setting_of m c now entry locals) now refl c.types k good x h u is)
 
-  -- The premise on the values of the bound names: an expression of another type than that of truth values may stand behind more of them.
+  -- The premise on the values of the bound names: an expression of another type than that of truth values may stand after more of them.
   pub translated : (x : ExprTree) (c : Context) (locals : List ObjectValue) (k : Bool) → IsGoodSetting (setting_of m c now entry locals) c.types k → (e : List Value) → StandsAmong among m c now entry locals e →
       reads_plainly among x ≡ true → is_some (type_of c.classes c.types x) ≡ true → (is_bool (type_of c.classes c.types x) ≡ true → length e ≡ c.bound) →
       R c.classes m e (defined x c) (meant x c) (run.value_of x (setting_of m c now entry locals))

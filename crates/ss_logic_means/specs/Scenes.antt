@@ -26,7 +26,7 @@ setting_of m c now entry locals = record {
   locals = locals;
 }
 
--- At these values of the bound names, and at any more of them behind, the terms of the context stand for these stores and locals.
+-- At these values of the bound names, and at any more of them after, the terms of the context stand for these stores and locals.
 pub record Stands (m : Structure) (c : Context) (current former : Heap) (values : List ObjectValue) (e : List Value) : Type 0 where
   pub now : (vs : List Value) → value_of c.classes m (e ++ vs) c.now ≡ store current
   pub entry : (vs : List Value) → value_of c.classes m (e ++ vs) c.entry ≡ store former
@@ -51,7 +51,7 @@ HaveValues cs m (t ∷ ts) (v ∷ vs) = (is_well_sorted cs [] t ≡ true) × (va
 abbrev pub IsStoreTerm : List ClassTree → Structure → Term → Heap → Type 0
 IsStoreTerm cs m t h = (is_well_sorted cs [] t ≡ true) × (value_of cs m [] t ≡ store h)
 
--- The terms of these choices have their values whatever more bound names stand behind.
+-- The terms of these choices have their values whatever more bound names stand after.
 abbrev pub Stay : List ClassTree → Structure → List Value → List Choice → Type 0
 Stay cs m e [] = Unit {0}
 Stay cs m e (x ∷ xs) = ((vs : List Value) → value_of cs m (e ++ vs) x.value ≡ value_of cs m e x.value) × Stay cs m e xs

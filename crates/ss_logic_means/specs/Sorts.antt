@@ -26,7 +26,7 @@ abbrev pub IsWellExpressed : List ClassTree → List Sort → Sort → List Form
 IsWellExpressed cs bound s parts x = AreWellFormed cs bound parts × HaveSort cs bound s (choices x)
 
 -- Where the bound names have these sorts, the terms of the context are stores, and what its locals mean has the sorts of their types, at any
--- more bound names behind.
+-- more bound names after.
 pub record IsSorted (c : Context) (bound : List Sort) : Type 0 where
   pub now : HasSort c.classes bound sort.Store c.now
   pub entry : HasSort c.classes bound sort.Store c.entry

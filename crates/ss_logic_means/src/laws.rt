@@ -34,7 +34,7 @@ pub fn closed_terms_stand()
     ensures { (m : Structure) (c : Context) (now entry : Heap) (terms : List Term) (locals : List ObjectValue) → IsStoreTerm c.classes m c.now now → IsStoreTerm c.classes m c.entry entry → c.locals ≡ map One terms → HaveValues c.classes m terms locals → Stands m c now entry locals [] }
 {}
 
-/// The terms of a context without bound names stay what they are behind more bound names.
+/// The terms of a context without bound names stay what they are after more bound names.
 pub fn closed_terms_stay()
     ensures { (m : Structure) (c : Context) (terms : List Term) (locals : List ObjectValue) → c.locals ≡ map One terms → HaveValues c.classes m terms locals → (x : ℕ) → Stay c.classes m [] (choices (local_meant c x)) }
 {}
@@ -59,7 +59,7 @@ pub fn typed_expressions_have_no_default()
     ensures { (cs : List ClassTree) (b : BodyTree) (w : Words) (x : ExprTree) → is_some (typed cs b w x) ≡ true → (has_no_default x ≡ true) × (is_some (type_of cs (local_types b) x) ≡ true) }
 {}
 
-/// The formula of a default condition is true exactly where it holds, if the terms of its local don't rest on names bound behind.
+/// The formula of a default condition is true exactly where it holds, if the terms of its local don't rest on names bound after.
 pub fn default_conditions_are_true_where_they_hold()
     ensures { (m : Structure) (now entry : Heap) (d : DefaultTree) (c : Context) (locals : List ObjectValue) (k : Bool) → IsGoodSetting (setting_of m c now entry locals) c.types k → (e : List Value) → Stands m c now entry locals e → length e ≡ c.bound → has_subject c.classes c.types d ≡ true → Stay c.classes m e (choices (local_meant c (subject d))) → Means c.classes m e (default_said c d) (run.default_holds (setting_of m c now entry locals) d) }
 {}
@@ -124,7 +124,7 @@ pub fn contexts_of_bodies_stand()
     ensures { (m : Structure) (cs : List ClassTree) (b : BodyTree) (now entry : Term) (current former : Heap) (locals : List ObjectValue) → IsStoreTerm cs m now current → IsStoreTerm cs m entry former → GivesFrom m 0 (local_types b) locals → Stands m (body_context cs b now entry) current former locals [] }
 {}
 
-/// The constants of the context of a body stay what they are behind more bound names.
+/// The constants of the context of a body stay what they are after more bound names.
 pub fn contexts_of_bodies_stay()
     ensures { (m : Structure) (cs : List ClassTree) (b : BodyTree) (now entry : Term) (locals : List ObjectValue) → GivesFrom m 0 (local_types b) locals → (x : ℕ) → Stay cs m [] (choices (local_meant (body_context cs b now entry) x)) }
 {}

@@ -51,7 +51,7 @@ terms_arguments cs m (t ∷ ts) [] vs h k = absurd (let no : ⊥ = cc in no)
 terms_arguments cs m [] [] (v ∷ vs) h k = absurd k
 terms_arguments cs m (t ∷ ts) (u ∷ us) [] h k = absurd k
 
--- what it means stays what it is behind more bound names
+-- what it means stays what it is after more bound names
 argument_stays : (cs : List ClassTree) (m : Structure) (t : Ty) (x : Meant) (v : ObjectValue) → IsArgument cs m t x v → Stay cs m [] (choices x)
 argument_stays cs m t (One u) v i = (λ vs. closed_value cs m vs u (i.sorted []).1.1, tt)
 argument_stays cs m t (Either xs) v i = absurd i.settled

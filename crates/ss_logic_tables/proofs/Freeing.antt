@@ -221,7 +221,7 @@ module _ (cs : List ClassTree) (m : Structure) (h : Heap) (low : (q : ℕ) → n
   captured_from (p ∷ ps) [] vs rest a k is f = absurd a
   captured_from (p ∷ ps) (x ∷ xs) [] rest a k is f = absurd a
 
-  -- behind the `this`, where there is one
+  -- after the `this`, where there is one
   abbrev pub Before_params : Bool → ℕ → List Ty
   Before_params static t = if static then [] else ty.Ref (record { 0 = t }) true ∷ []
 
@@ -301,7 +301,7 @@ module _ (cs : List ClassTree) (m : Structure) (h : Heap) (low : (q : ℕ) → n
 
 -- ---- the object of a span
 
--- the first argument behind the types of a `this`
+-- the first argument after the types of a `this`
 pub first_argument : (cs : List ClassTree) (m : Structure) (h : Heap) (static : Bool) (c : ℕ) (ts : List Ty) (xs : List Meant) (vs : List ObjectValue) → static ≡ false →
     AreArguments cs m ((if static then [] else ty.Ref (record { 0 = c }) true ∷ []) ++ ts) xs vs → AllTyped cs (objects_of cs m.table h) ((if static then [] else ty.Ref (record { 0 = c }) true ∷ []) ++ ts) vs →
     (u : Term) × (y : ObjectValue) × (slice_get xs 0 ≡ Some (One u)) × (slice_get vs 0 ≡ Some y) × HasSort cs [] sort.Rest u × (value_of cs m [] u ≡ standing y) × IsReferenceOf h y

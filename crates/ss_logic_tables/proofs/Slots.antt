@@ -53,7 +53,7 @@ apart_same (x ∷ xs) (y ∷ ys) e a =
     let rest : numbers xs ≡ numbers ys = tails x.field y.field (numbers xs) (numbers ys) e in
     (none_same xs ys x.field rest (subst (λ f. slot_value ys f ≡ None) (sym same) a.0), apart_same xs ys rest a.1)
 
--- ---- two lists, one behind the other
+-- ---- two lists, one after the other
 
 slot_either : (xs ys : List Slot) (f : ℕ) (v : Value) → slot_value (xs ++ ys) f ≡ Some v → (slot_value xs f ≡ Some v) ⊎ (slot_value ys f ≡ Some v)
 slot_either [] ys f v e = inr e

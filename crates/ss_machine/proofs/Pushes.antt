@@ -44,7 +44,7 @@ module _ (old mid : List Value) (e : ExprTree) (es : List ExprTree) (c : Setting
   pub goes_wrong : (u : Undefined) → value_of e c ≡ Err u → all ≡ Err u
   goes_wrong u first = g.cause u (first_cause e es c u first)
 
--- behind the last expression
+-- after the last expression
 pub goes_last : (old new : List Value) (es : List Expr) (i : ℕ) (c : Setting) (all : Result (List Value) Undefined) → GoesOn old new (values_of (map expr (drop i es)) c) all → length es ≤ i → (vs : List Value) × (all ≡ Ok vs) × (new ≡ old ++ vs)
 goes_last old new [] zero c all g le = (g.pushed, g.values [] refl ∙ ap (λ (l : List Value). Ok l) (append-nil g.pushed), g.there)
 goes_last old new [] (suc i) c all g le = (g.pushed, g.values [] refl ∙ ap (λ (l : List Value). Ok l) (append-nil g.pushed), g.there)

@@ -90,7 +90,7 @@ module _ (c : CoreTree) (input : List ℤ) (n : ℕ) (m : Machine) (taken took :
   still : Wrote mid new [] → Wrote old new (pieces c input n)
   still h = subst (λ l. Wrote old new l) (append-nil (pieces c input n)) (wrote_more old mid new (pieces c input n) [] wrote h)
 
-  -- the step after which the run has ended writes nothing, and none comes behind it
+  -- the step after which the run has ended writes nothing, and none comes after it
   at_end : (steps : ℕ) (e : State) → n < steps → (IsRunning e → ⊥) → piece_of here_next ≡ [] → then_is m.stores.now s.said here_next ≡ e → Wrote mid new [] → Wrote old new (pieces c input steps)
   at_end steps e lt never none is h =
       let z : steps ≡ (steps - suc n) + suc n = omega arith in

@@ -15,19 +15,19 @@ use Rattle.ss_machine.specs.declared.frame.Target.TheVariants as target
 use Rattle.ss_machine.specs.declared.frame.Frame.{Frame}
 use Rattle.ss_machine.specs.declared.machine.Machine.{Machine}
 
--- what stands behind a block: statements, the test of a loop, or a loop
-abbrev pub dues_behind : Behind → List Due
-dues_behind (behind.Code code) = dues (block code.now)
-dues_behind (behind.Test l) = Test (expr l.now.test) (block l.now.body.items) (loop_of l.now) ∷ []
-dues_behind (behind.Head l) = Statement (loop_of l.now) ∷ []
+-- what stands after a block: statements, the test of a loop, or a loop
+abbrev pub dues_after : Behind → List Due
+dues_after (behind.Code code) = dues (block code.now)
+dues_after (behind.Test l) = Test (expr l.now.test) (block l.now.body.items) (loop_of l.now) ∷ []
+dues_after (behind.Head l) = Statement (loop_of l.now) ∷ []
 
 -- the last comes first
-abbrev pub left_behind : List Behind → List Due
-left_behind [] = []
-left_behind (p ∷ ps) = left_behind ps ++ dues_behind p
+abbrev pub left_after : List Behind → List Due
+left_after [] = []
+left_after (p ∷ ps) = left_after ps ++ dues_after p
 
 abbrev pub left_of : Frame → List Due
-left_of f = dues (block f.code.now) ++ left_behind f.later.items
+left_of f = dues (block f.code.now) ++ left_after f.later.items
 
 abbrev pub target_of : Target → states.Target
 target_of (target.Call x) = states.ToCall x

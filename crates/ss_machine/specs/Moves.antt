@@ -72,15 +72,15 @@ abbrev pub AreValues : Result (Vec Value) Halt → Result (List Value) Undefined
 AreValues (Ok vs) r = r ≡ Ok vs.items
 AreValues (Err h) r = HaltsAt h r
 
--- the values stand behind those that were there
+-- the values stand after those that were there
 abbrev pub ArePushed : Result Unit Halt → List Value → List Value → Result (List Value) Undefined → Type 0
 ArePushed (Ok u) old new r = (vs : List Value) × (r ≡ Ok vs) × (new ≡ old ++ vs)
 ArePushed (Err h) old new r = HaltsAt h r
 
--- the values stand behind this one
-abbrev pub AreBehind : Value → Result (Vec Value) Halt → Result (List Value) Undefined → Type 0
-AreBehind v (Ok vs) r = (ws : List Value) × (r ≡ Ok ws) × (vs.items ≡ v ∷ ws)
-AreBehind v (Err h) r = HaltsAt h r
+-- the values stand after this one
+abbrev pub AreAfter : Value → Result (Vec Value) Halt → Result (List Value) Undefined → Type 0
+AreAfter v (Ok vs) r = (ws : List Value) × (r ≡ Ok ws) × (vs.items ≡ v ∷ ws)
+AreAfter v (Err h) r = HaltsAt h r
 
 -- the frame runs at the store of now, and those that were there wait
 abbrev pub Enters : Result Unit Halt → Frame → Machine → Machine → Type 0

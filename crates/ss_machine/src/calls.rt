@@ -6,7 +6,7 @@ ghost use Rattle.ss_core.specs.Chain.{most_classes, IsWithinLimits};
 ghost use Rattle.ss_store_rules.specs.Typed as typed;
 ghost use Rattle.ss_machine_rules.specs.Steps as steps;
 ghost use Rattle.ss_machine.specs.Frames.{running, waiting, target_of};
-ghost use Rattle.ss_machine.specs.Moves.{Does, doing, here, AreBehind, Enters, IsPopped};
+ghost use Rattle.ss_machine.specs.Moves.{Does, doing, here, AreAfter, Enters, IsPopped};
 
 use crate::frame::{Frame, Target, locals_at_entry};
 use crate::halt::{Halt, ensure};
@@ -51,7 +51,7 @@ fn result_local(body: &Body) -> Option<usize>
 }
 
 impl<'a> Machine<'a> {
-    // This value, and behind it the values of the arguments, from the left.
+    // This value, and after it the values of the arguments, from the left.
     fn with_arguments(
         &self,
         alloc: Global,
@@ -60,7 +60,7 @@ impl<'a> Machine<'a> {
         es: &[Expr],
     ) -> Result<Vec<Value>, Halt>
         requires { length (view.classes core.now.classes) ≤ most_classes }
-        ensures { AreBehind first result (steps.values_of (view.exprs es.now) (here core.now self.now)) }
+        ensures { AreAfter first result (steps.values_of (view.exprs es.now) (here core.now self.now)) }
     {
         let mut values = Vec::new(alloc);
         values.push(first)?;
@@ -223,7 +223,7 @@ impl<'a> Machine<'a> {
         self.enter(alloc, core, body, entrance, arguments)
     }
 
-    // The caller goes on with the result, and behind a `new` with the object, which is ready from then on.
+    // The caller goes on with the result, and after a `new` with the object, which is ready from then on.
     fn leave(&mut self, core: &Core, value: Value) -> Result<(), Halt>
         ensures { Does result (steps.leave value (running self.old) (waiting self.old) self.old.stores.now) self.new }
     {

@@ -4,13 +4,13 @@ ghost use Rattle.ss_core.specs.View as view;
 ghost use Rattle.ss_store_rules.specs.Store as store;
 ghost use Rattle.ss_store_rules.specs.Store.{Object};
 ghost use Rattle.ss_machine_rules.specs.States as states;
-ghost use Rattle.ss_machine.specs.Frames.{dues_behind, left_behind, left_of, target_of, frame_of, IsFirst};
+ghost use Rattle.ss_machine.specs.Frames.{dues_after, left_after, left_of, target_of, frame_of, IsFirst};
 
 use ss_core::{Body, Loop, Stmt, Ty};
 use ss_store_rules::Value;
 use std::alloc::{AllocError, Global};
 
-// What stands behind a block: statements, the test of a loop, or a loop.
+// What stands after a block: statements, the test of a loop, or a loop.
 #[derive(Clone, Copy)]
 pub enum Behind<'a> {
     Code(&'a [Stmt]),
@@ -25,7 +25,7 @@ pub enum Target {
     New(Option<usize>),
 }
 
-// A body that runs: its locals, the statements that are left of the innermost block, and where it returns to. Behind these statements
+// A body that runs: its locals, the statements that are left of the innermost block, and where it returns to. After these statements
 // comes what is due later, the last of it first.
 #[derive(Drop)]
 pub struct Frame<'a> {
@@ -114,10 +114,10 @@ impl<'a> Frame<'a> {
         }
     }
 
-    // Something waits behind the statements that come next.
+    // Something waits after the statements that come next.
     #[tactic(auto, using(crate::proofs::Stacks::left_push))]
     pub fn wait(&mut self, behind: Behind<'a>) -> Result<(), AllocError>
-        ensures left { OnOk result (left_behind self.new.later.items ≡ dues_behind behind.entry ++ left_behind self.old.later.items) }
+        ensures left { OnOk result (left_after self.new.later.items ≡ dues_after behind.entry ++ left_after self.old.later.items) }
         ensures code { self.new.code ≡ self.old.code }
         ensures body { self.new.body ≡ self.old.body }
         ensures locals { self.new.locals ≡ self.old.locals }
@@ -127,9 +127,9 @@ impl<'a> Frame<'a> {
         Ok(())
     }
 
-    // The statements that are left wait behind what comes next.
-    pub fn wait_behind(&mut self) -> Result<(), AllocError>
-        ensures left { OnOk result (left_behind self.new.later.items ≡ left_of self.old) }
+    // The statements that are left wait after what comes next.
+    pub fn wait_after(&mut self) -> Result<(), AllocError>
+        ensures left { OnOk result (left_after self.new.later.items ≡ left_of self.old) }
         ensures body { self.new.body ≡ self.old.body }
         ensures locals { self.new.locals ≡ self.old.locals }
         ensures into { self.new.into ≡ self.old.into }

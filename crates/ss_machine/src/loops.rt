@@ -103,7 +103,7 @@ impl<'a> Machine<'a> {
         self.go_to(Behind::Test(l), &l.prelude)
     }
 
-    // At the test of a loop: its body and then the loop again are due, or what is left behind it.
+    // At the test of a loop: its body and then the loop again are due, or what is left after it.
     pub fn test_loop(&mut self, core: &Core, l: &'a Loop) -> Result<(), Halt>
         requires { length (view.classes core.now.classes) ≤ most_classes }
         ensures { Does result

@@ -6,7 +6,7 @@ ghost use Rattle.ss_store_rules.specs.Values as values;
 ghost use Rattle.ss_machine_rules.specs.Frame as frame;
 ghost use Rattle.ss_machine_rules.specs.States.{dues, span};
 ghost use Rattle.ss_machine_rules.specs.Steps as steps;
-ghost use Rattle.ss_machine.specs.Frames.{dues_behind, running, waiting};
+ghost use Rattle.ss_machine.specs.Frames.{dues_after, running, waiting};
 ghost use Rattle.ss_machine.specs.Moves.{here, IsValue, AreValues, ArePushed, FailsAs, IsInto};
 
 use crate::frame::{Behind, Frame};
@@ -108,20 +108,20 @@ impl<'a> Machine<'a> {
         Ok(kept)
     }
 
-    // Goes into a block; what is left waits behind it.
+    // Goes into a block; what is left waits after it.
     pub fn go_into(&mut self, block: &'a [Stmt]) -> Result<(), Halt>
         ensures { IsInto result (dues (view.block block.now)) self.old self.new }
     {
-        self.top.wait_behind()?;
+        self.top.wait_after()?;
         self.top.code = block;
         Ok(())
     }
 
-    // Goes into a block, behind which this is due, and then what is left.
+    // Goes into a block, after which this is due, and then what is left.
     pub fn go_to(&mut self, behind: Behind<'a>, block: &'a [Stmt]) -> Result<(), Halt>
-        ensures { IsInto result (dues (view.block block.now) ++ dues_behind behind.entry) self.old self.new }
+        ensures { IsInto result (dues (view.block block.now) ++ dues_after behind.entry) self.old self.new }
     {
-        self.top.wait_behind()?;
+        self.top.wait_after()?;
         self.top.wait(behind)?;
         self.top.code = block;
         Ok(())

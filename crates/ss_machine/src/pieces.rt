@@ -5,7 +5,7 @@ ghost use Rattle.ss_core.specs.Tree.{CoreTree};
 ghost use Rattle.ss_machine_rules.specs.Runs.{printed};
 ghost use Rattle.ss_machine.specs.Pieces.{pieces};
 
-/// One behind another, the pieces of a run are what it prints.
+/// One after another, the pieces of a run are what it prints.
 pub fn pieces_are_printed()
     ensures { (c : CoreTree) (input : List ℤ) (n : ℕ) → concat (pieces c input n) ≡ printed c input n }
 {}

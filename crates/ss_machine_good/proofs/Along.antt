@@ -143,30 +143,30 @@ module _ {S : Type 0} (f : Flow S) (c : Check S) (Enough : S → Type 0) (is : I
   reached_where s (Some k) h = is.statement s k h
 
   mutual
-    behind_where : (s : StmtTree) (k : S) → Enough k → Where Enough (behind f s k)
-    behind_where (IfStmt p e a b) k h = met_where (at_end f a (Some (f.tested e true k))) (at_end f b (Some (f.tested e false k))) (end_where a (Some (f.tested e true k)) (is.tested e true k h)) (end_where b (Some (f.tested e false k)) (is.tested e false k h))
-    behind_where (LoopStmt p invariants prelude e body exposes) k h =
+    after_where : (s : StmtTree) (k : S) → Enough k → Where Enough (behind f s k)
+    after_where (IfStmt p e a b) k h = met_where (at_end f a (Some (f.tested e true k))) (at_end f b (Some (f.tested e false k))) (end_where a (Some (f.tested e true k)) (is.tested e true k h)) (end_where b (Some (f.tested e false k)) (is.tested e false k h))
+    after_where (LoopStmt p invariants prelude e body exposes) k h =
         let s = LoopStmt p invariants prelude e body exposes in
         left_where e (is_literal_true e) (at_end f prelude (Some (f.head s k))) (end_where prelude (Some (f.head s k)) (is.head s k h))
-    behind_where (AssignStmt p x e) k h = is.after (AssignStmt p x e) k h
-    behind_where (WriteStmt p o g m t e) k h = is.after (WriteStmt p o g m t e) k h
-    behind_where (WriteElementStmt p a i e) k h = is.after (WriteElementStmt p a i e) k h
-    behind_where (NewStmt p x t es) k h = is.after (NewStmt p x t es) k h
-    behind_where (NewArrayStmt p x t e) k h = is.after (NewArrayStmt p x t e) k h
-    behind_where (CallStmt p x callee es) k h = is.after (CallStmt p x callee es) k h
-    behind_where (ReadyStmt p) k h = is.after (ReadyStmt p) k h
-    behind_where (UnpackStmt p x t) k h = is.after (UnpackStmt p x t) k h
-    behind_where (PackStmt p x t) k h = is.after (PackStmt p x t) k h
-    behind_where (AssertStmt p e) k h = is.after (AssertStmt p e) k h
-    behind_where (AssumeStmt p e) k h = is.after (AssumeStmt p e) k h
-    behind_where (PrintStmt p e newline) k h = is.after (PrintStmt p e newline) k h
-    behind_where (PrintTextStmt p text newline) k h = is.after (PrintTextStmt p text newline) k h
-    behind_where (ReturnStmt p e) k h = tt
+    after_where (AssignStmt p x e) k h = is.after (AssignStmt p x e) k h
+    after_where (WriteStmt p o g m t e) k h = is.after (WriteStmt p o g m t e) k h
+    after_where (WriteElementStmt p a i e) k h = is.after (WriteElementStmt p a i e) k h
+    after_where (NewStmt p x t es) k h = is.after (NewStmt p x t es) k h
+    after_where (NewArrayStmt p x t e) k h = is.after (NewArrayStmt p x t e) k h
+    after_where (CallStmt p x callee es) k h = is.after (CallStmt p x callee es) k h
+    after_where (ReadyStmt p) k h = is.after (ReadyStmt p) k h
+    after_where (UnpackStmt p x t) k h = is.after (UnpackStmt p x t) k h
+    after_where (PackStmt p x t) k h = is.after (PackStmt p x t) k h
+    after_where (AssertStmt p e) k h = is.after (AssertStmt p e) k h
+    after_where (AssumeStmt p e) k h = is.after (AssumeStmt p e) k h
+    after_where (PrintStmt p e newline) k h = is.after (PrintStmt p e newline) k h
+    after_where (PrintTextStmt p text newline) k h = is.after (PrintTextStmt p text newline) k h
+    after_where (ReturnStmt p e) k h = tt
 
     pub end_where : (code : CodeTree) (o : Option S) → Where Enough o → Where Enough (at_end f code o)
     end_where NoCode o h = h
     end_where (Then s code) None h = tt
-    end_where (Then s code) (Some k) h = end_where code (behind f s k) (behind_where s k h)
+    end_where (Then s code) (Some k) h = end_where code (behind f s k) (after_where s k h)
 
   mutual
     at_where : (s : StmtTree) (k : S) → Enough k → holds_at f c s k ≡ true
@@ -206,7 +206,7 @@ module _ {S : Type 0} (f : Flow S) (c : Check S) (Enough : S → Type 0) (is : I
     pub along_where : (code : CodeTree) (o : Option S) → Where Enough o → holds_along f c code o ≡ true
     along_where NoCode o h = refl
     along_where (Then s code) None h = refl
-    along_where (Then s code) (Some k) h = and_from (holds_at f c s k) (holds_along f c code (behind f s k)) (at_where s k h) (along_where code (behind f s k) (behind_where s k h))
+    along_where (Then s code) (Some k) h = and_from (holds_at f c s k) (holds_along f c code (behind f s k)) (at_where s k h) (along_where code (behind f s k) (after_where s k h))
 
 -- ---- code in two parts
 
@@ -214,6 +214,6 @@ pub nothing_reached : {S : Type 0} (f : Flow S) (c : Check S) (code : CodeTree) 
 nothing_reached f c NoCode = refl
 nothing_reached f c (Then s code) = refl
 
-pub nothing_behind : {S : Type 0} (f : Flow S) (code : CodeTree) → at_end f code None ≡ None
-nothing_behind f NoCode = refl
-nothing_behind f (Then s code) = refl
+pub nothing_after : {S : Type 0} (f : Flow S) (code : CodeTree) → at_end f code None ≡ None
+nothing_after f NoCode = refl
+nothing_after f (Then s code) = refl

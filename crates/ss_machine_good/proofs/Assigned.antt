@@ -29,28 +29,28 @@ body_assigned xs e None w = tt
 body_assigned xs e (Some ys) w = w
 
 mutual
-  behind_assigned : (s : StmtTree) (xs ys : ℕ → Bool) → ((x : ℕ) → xs x ≡ true → ys x ≡ true) → StaysAssigned xs (behind assigned_flow s ys)
-  behind_assigned (AssignStmt p x e) xs ys w = λ y h. or_right _ (ys y) (w y h)
-  behind_assigned (WriteStmt p o f m t e) xs ys w = w
-  behind_assigned (WriteElementStmt p x i e) xs ys w = w
-  behind_assigned (NewStmt p x t es) xs ys w = λ y h. or_right _ (ys y) (w y h)
-  behind_assigned (NewArrayStmt p x t e) xs ys w = λ y h. or_right _ (ys y) (w y h)
-  behind_assigned (CallStmt p x callee es) xs ys w = λ y h. or_right _ (ys y) (w y h)
-  behind_assigned (ReadyStmt p) xs ys w = w
-  behind_assigned (IfStmt p e a b) xs ys w = met_assigned xs (at_end assigned_flow a (Some ys)) (at_end assigned_flow b (Some ys)) (end_assigned a xs (Some ys) w) (end_assigned b xs (Some ys) w)
-  behind_assigned (LoopStmt p invariants prelude e body exposes) xs ys w = left_assigned xs e (is_literal_true e) (at_end assigned_flow prelude (Some ys)) (end_assigned prelude xs (Some ys) w)
-  behind_assigned (UnpackStmt p x t) xs ys w = w
-  behind_assigned (PackStmt p x t) xs ys w = w
-  behind_assigned (AssertStmt p e) xs ys w = w
-  behind_assigned (AssumeStmt p e) xs ys w = w
-  behind_assigned (PrintStmt p e newline) xs ys w = w
-  behind_assigned (PrintTextStmt p text newline) xs ys w = w
-  behind_assigned (ReturnStmt p e) xs ys w = tt
+  after_assigned : (s : StmtTree) (xs ys : ℕ → Bool) → ((x : ℕ) → xs x ≡ true → ys x ≡ true) → StaysAssigned xs (behind assigned_flow s ys)
+  after_assigned (AssignStmt p x e) xs ys w = λ y h. or_right _ (ys y) (w y h)
+  after_assigned (WriteStmt p o f m t e) xs ys w = w
+  after_assigned (WriteElementStmt p x i e) xs ys w = w
+  after_assigned (NewStmt p x t es) xs ys w = λ y h. or_right _ (ys y) (w y h)
+  after_assigned (NewArrayStmt p x t e) xs ys w = λ y h. or_right _ (ys y) (w y h)
+  after_assigned (CallStmt p x callee es) xs ys w = λ y h. or_right _ (ys y) (w y h)
+  after_assigned (ReadyStmt p) xs ys w = w
+  after_assigned (IfStmt p e a b) xs ys w = met_assigned xs (at_end assigned_flow a (Some ys)) (at_end assigned_flow b (Some ys)) (end_assigned a xs (Some ys) w) (end_assigned b xs (Some ys) w)
+  after_assigned (LoopStmt p invariants prelude e body exposes) xs ys w = left_assigned xs e (is_literal_true e) (at_end assigned_flow prelude (Some ys)) (end_assigned prelude xs (Some ys) w)
+  after_assigned (UnpackStmt p x t) xs ys w = w
+  after_assigned (PackStmt p x t) xs ys w = w
+  after_assigned (AssertStmt p e) xs ys w = w
+  after_assigned (AssumeStmt p e) xs ys w = w
+  after_assigned (PrintStmt p e newline) xs ys w = w
+  after_assigned (PrintTextStmt p text newline) xs ys w = w
+  after_assigned (ReturnStmt p e) xs ys w = tt
 
   end_assigned : (code : CodeTree) (xs : ℕ → Bool) (o : Option (ℕ → Bool)) → StaysAssigned xs o → StaysAssigned xs (at_end assigned_flow code o)
   end_assigned NoCode xs o w = w
   end_assigned (Then s code) xs None w = tt
-  end_assigned (Then s code) xs (Some ys) w = end_assigned code xs (behind assigned_flow s ys) (behind_assigned s xs ys w)
+  end_assigned (Then s code) xs (Some ys) w = end_assigned code xs (behind assigned_flow s ys) (after_assigned s xs ys w)
 
 again_assigned : (b : BodyTree) (l : Loop) (xs ys : ℕ → Bool) (x : Setting) → known_at_end assigned_flow l xs ≡ Some ys → AreAssigned b ys x → AreAssigned b xs x
 again_assigned b l xs ys x is so =

@@ -1,4 +1,4 @@
--- A frame behind one of its statements, in a later store.
+-- A frame after one of its statements, in a later store.
 use Rattle.std.proofs.Common.{◌≡◌, ◌≢◌, ℕ, zero, suc, ◌<◌, List, [], ◌∷◌, length, Bool, true, false, ◌||◌, ◌==◌, Option, Some, None, refl, sym, ◌∙◌, ap, subst, arith, ⊎_elim}
 use Rattle.std.specs.Prelude.{slice_get, if◌then◌else◌, nat_le, nat_lt}
 use Rattle.std.proofs.lemmas.Bool.{false≢true, true≢false, and_parts, or_cases, or_left, or_right, leb-true, cases_Bool, eq-eqb, eqb-true}
@@ -122,7 +122,7 @@ module _ (c : CoreTree) (n : ℕ) (s z : List Object) (later : IsLater c.classes
     pub later_this : (r : Bool) → IsThisReady f.body.flags.ctor r (scene c f s) → IsThisReady f.body.flags.ctor r (scene c f z)
     later_this r so ctor h = let at = constructs ctor in later_object_ready (this_of f.locals) at.position at.object at.this at.there (so ctor h)
 
--- ---- behind a statement
+-- ---- after a statement
 
 -- The value v may stand in the local x, if there is one, which the statement assigns.
 pub record MayBePut (c : CoreTree) (b : BodyTree) (st : StmtTree) (z : List Object) (x : Option ℕ) (v : Value) : Type 0 where
@@ -161,11 +161,11 @@ module _ (c : CoreTree) (f : Frame) (s : List Object) (st : StmtTree) (ds : List
   pub this_kept : (z : List Object) (x : Option ℕ) (v : Value) → MayBePut c f.body st z x v → f.body.flags.ctor ≡ true → this_of (put x v f.locals) ≡ this_of f.locals
   this_kept z x v may ctor = put_this f.locals x v (λ y e. variable_apart f.body y is.sound.flags (put_variable z x v may y e) ctor)
 
-  pub behind_frame : (z : List Object) (x : Option ℕ) (v : Value) → IsLater c.classes (entry_size f) s z → IsGoodStore c z → MayBePut c f.body st z x v →
+  pub after_frame : (z : List Object) (x : Option ℕ) (v : Value) → IsLater c.classes (entry_size f) s z → IsGoodStore c z → MayBePut c f.body st z x v →
       ((k : Known) → IsTrueOf f.body.flags.ctor k (scene c f z) → IsTrueOf f.body.flags.ctor (known_after c f.body st k) (scene c (with_local x v (record f { left = ds })) z)) →
       ((r : Bool) → IsThisReady f.body.flags.ctor r (scene c f z) → IsThisReady f.body.flags.ctor (r || makes_ready c st) (scene c (with_local x v (record f { left = ds })) z)) →
       IsGoodFrame c (with_local x v (record f { left = ds })) z
-  behind_frame z x v later good may known_step ready_step =
+  after_frame z x v later good may known_step ready_step =
       let b = f.body in
       let g = with_local x v (record f { left = ds }) in
       let sound = is.sound in

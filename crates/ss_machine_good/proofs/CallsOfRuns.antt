@@ -97,9 +97,9 @@ with_this b vs o instance_ rest i t v et ev nn = here i (subst (λ ts. slice_get
     here zero e1 e2 = let same : value.Obj o ≡ v = cc in subst IsNotNull same (λ null. cc)
     here (suc i) e1 e2 = rest i t v e1 e2 nn
 
-all_behind : (P : ExprTree → Bool) (xs ys : List ExprTree) → list_all P (xs ++ ys) ≡ true → list_all P ys ≡ true
-all_behind P [] ys h = h
-all_behind P (x ∷ xs) ys h = all_behind P xs ys (and_parts (P x) (list_all P (xs ++ ys)) h).1
+all_after : (P : ExprTree → Bool) (xs ys : List ExprTree) → list_all P (xs ++ ys) ≡ true → list_all P ys ≡ true
+all_after P [] ys h = h
+all_after P (x ∷ xs) ys h = all_after P xs ys (and_parts (P x) (list_all P (xs ++ ys)) h).1
 
 pub call_parts : (c : CoreTree) (b : BodyTree) (x : Option ℕ) (es : List ExprTree) (o : Option BodyTree) → is_call_of c.classes b x es o ≡ true → (k : BodyTree) × (o ≡ Some k) × (have_types_in c.classes b es (types_of k.params) ≡ true) × (fits_kept c.classes b x k.result ≡ true)
 call_parts c b x es None h = absurd (false≢true h)
@@ -126,7 +126,7 @@ module _ (c : CoreTree) (f : Frame) (s : List Object) (p : Place) (x : Option �
       let checked = and_parts (may_enter c b before.known es (callee_of c b callee)) (may_keep b x (result_of (callee_of c b callee))) before.checked in
       let stands : arguments_may_stand c b before.known es (types_of k.0.params) ≡ true = subst (λ o. may_enter c b before.known es o ≡ true) k.1 checked.0 in
       let keeps_ : may_keep b x k.0.result ≡ true = subst (λ o. may_keep b x (result_of o) ≡ true) k.1 checked.1 in
-      let reads_ = all_behind (reads_assigned b (before_assigned c f s st ds refl at is).known) (receiver callee) es (reads_evaluated c f s st ds refl at is) in
+      let reads_ = all_after (reads_assigned b (before_assigned c f s st ds refl at is).known) (receiver callee) es (reads_evaluated c f s st ds refl at is) in
       record {
         body = k.0;
         is_callee = k.1;

@@ -165,7 +165,7 @@ module _ (c : CoreTree) (formed : IsFormed c) (f : Frame) (s : List Object) (ds 
         (λ z. z)
         (cases_Bool f.body.flags.delayed)
 
-    -- what is known behind it
+    -- what is known after it
     answered : (z : List Object) (v : Value) → IsLater c.classes (entry_size f) s z → IsAnswer c base_is.body (ToCall x) (this_of f.locals) z v → (g : ℕ) → (not f.body.flags.delayed ≡ true) ⊎ (is_field_above c f.body g ≡ true) → HasGiven c z (this_of f.locals) g
     answered z v later answer g which = ⊎_elim
         (λ up. answer.fields base_is.ctor g (λ delayed. up))

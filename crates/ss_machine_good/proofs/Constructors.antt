@@ -40,7 +40,7 @@ use Rattle.ss_machine_good.proofs.Values.{before_fields}
 use Rattle.ss_machine_good.proofs.Statements.{if_true, given_known, all_given, typed_here, written_not_null}
 use Rattle.ss_machine_good.proofs.CallsOfRuns.{called}
 use Rattle.ss_machine_good.proofs.Returns.{constructor_result}
-use Rattle.ss_machine_good.proofs.Followed.{IsFollowed, IsGiven, WillBeFollowed, behind_followed, quiet_followed, this_same, kept_true, kept_assigned}
+use Rattle.ss_machine_good.proofs.Followed.{IsFollowed, IsGiven, WillBeFollowed, after_followed, quiet_followed, this_same, kept_true, kept_assigned}
 
 -- ---- writes
 
@@ -170,7 +170,7 @@ module _ (c : CoreTree) (formed : IsFormed c) (f : Frame) (s : List Object) (ds 
         let nn0 = is_non_null_type (result_of (callee_of c f.body (BaseConstructor n))) in
         let result : nn0 ≡ is_non_null_type b.result = ap (λ o. is_non_null_type (result_of o)) base_is.is_callee in
         let same : k.body ≡ b = let both : Some k.body ≡ Some b = sym k.is_callee ∙ base_is.is_callee in cc in
-        behind_followed c f s st ds refl at is are z x v later
+        after_followed c f s st ds refl at is are z x v later
         (λ j so.
         let kept = kept_true c f s st ds refl at is x v (λ y. refl) z k.body.result k.fits nn0 (λ h. given.non_null (sym result ∙ h)) j so in
         record {

@@ -13,7 +13,7 @@ use Rattle.ss_store_rules.specs.Good.{is_non_null}
 use Rattle.ss_store_rules.specs.Locals.{each}
 use Rattle.ss_store_rules.specs.Paths.{at_end, where_reached, holds_along}
 use Rattle.ss_store_rules.specs.NonNull.{Known, known_at_entry, known_flow, known_after, with_kept, is_field_above}
-use Rattle.ss_store_rules.specs.Construction.{is_base_or_ready, has_no_base_or_ready, opening, behind_opening, begins_with, is_below_object, wants_base, wants_ready, is_return, writes_own, has_fields_from, has_own_fields, has_all_fields, complete_check, is_ready_with_fields, returns_with_fields}
+use Rattle.ss_store_rules.specs.Construction.{is_base_or_ready, has_no_base_or_ready, opening, after_opening, begins_with, is_below_object, wants_base, wants_ready, is_return, writes_own, has_fields_from, has_own_fields, has_all_fields, complete_check, is_ready_with_fields, returns_with_fields}
 use Rattle.ss_store_rules.specs.Formed.{IsFormed, IsFormedBody}
 use Rattle.ss_machine_good.specs.Checks.{fields_asked, fields_check}
 use Rattle.ss_machine_good.proofs.Along.{IsEnough, along_from, along_each, along_where, nothing_reached}
@@ -74,7 +74,7 @@ kept_fields : (x : Option ℕ) (non_null : Bool) (k : Known) (f : ℕ) → (with
 kept_fields None non_null k f = refl
 kept_fields (Some x) non_null k f = refl
 
--- behind `base(..)` a constructor that isn't delayed has all fields
+-- after `base(..)` a constructor that isn't delayed has all fields
 base_all : (c : CoreTree) (b : BodyTree) (p : Place) (x : Option ℕ) (n : ℕ) (es : List ExprTree) (k : Known) → b.flags.delayed ≡ false → (f : ℕ) → (known_after c b (CallStmt p x (BaseConstructor n) es) k).fields f ≡ true
 base_all c b p x n es k undelayed f = or_left _ (is_field_above c b f) (or_right _ (not b.flags.delayed) (ap not undelayed))
 
@@ -180,8 +180,8 @@ plain_unwanted true delayed below_object other code plain h = absurd (true≢fal
 plain_unwanted false delayed below_object other code plain h = h
 
 module _ (c : CoreTree) (formed : IsFormed c) (b : BodyTree) (fb : IsFormedBody c b) where
-  order : (has_no_base_or_ready (opening b.code) ≡ true) × (begins_with (wants_base c b) (wants_ready c b) (behind_opening b.code) ≡ true)
-  order = and_parts (has_no_base_or_ready (opening b.code)) (begins_with (wants_base c b) (wants_ready c b) (behind_opening b.code)) fb.order
+  order : (has_no_base_or_ready (opening b.code) ≡ true) × (begins_with (wants_base c b) (wants_ready c b) (after_opening b.code) ≡ true)
+  order = and_parts (has_no_base_or_ready (opening b.code)) (begins_with (wants_base c b) (wants_ready c b) (after_opening b.code)) fb.order
 
   -- a class whose constructor wants no base stands directly below `object`
   no_base : (ctor below_object : Bool) → ctor ≡ true → (ctor && not below_object) ≡ false → below_object ≡ true
@@ -200,25 +200,25 @@ module _ (c : CoreTree) (formed : IsFormed c) (b : BodyTree) (fb : IsFormedBody 
       let own = ⊎_elim (λ h. absurd (⊎_elim (λ z. false≢true (sym (ap not ctor) ∙ z)) (λ z. false≢true (sym undelayed ∙ z)) (or_cases (not b.flags.ctor) b.flags.delayed h))) (λ z. z) (or_cases (not b.flags.ctor || b.flags.delayed) (is_ready_with_fields c b) fb.undelayed_fields) in
       along_parts f d b.code (Some (known_at_entry b))
       (along_each f d (λ s. not (is_base_or_ready s) && not (is_return s)) (λ s k h. let p = and_parts (not (is_base_or_ready s)) (not (is_return s)) h in asked c b ctor s k (not_asked c b s k p.0 p.1)) (λ e k. refl) (opening b.code) (Some (known_at_entry b)) both)
-      (behind_part (at_end f (opening b.code) (Some (known_at_entry b))) wants own)
+      (after_part (at_end f (opening b.code) (Some (known_at_entry b))) wants own)
     where
-      behind_part : (o : Option Known) → (wants_base c b || wants_ready c b) ≡ true → where_reached (has_own_fields c.classes b.class) o ≡ true → holds_along (known_flow c b) (fields_check c b) (behind_opening b.code) o ≡ true
-      behind_part None w own = nothing_reached (known_flow c b) (fields_check c b) (behind_opening b.code)
-      behind_part (Some k) w own =
-          behind_fields c b ctor undelayed (wants_base c b) (wants_ready c b) (behind_opening b.code) k order.1 w own
+      after_part : (o : Option Known) → (wants_base c b || wants_ready c b) ≡ true → where_reached (has_own_fields c.classes b.class) o ≡ true → holds_along (known_flow c b) (fields_check c b) (after_opening b.code) o ≡ true
+      after_part None w own = nothing_reached (known_flow c b) (fields_check c b) (after_opening b.code)
+      after_part (Some k) w own =
+          behind_fields c b ctor undelayed (wants_base c b) (wants_ready c b) (after_opening b.code) k order.1 w own
           (λ none. own_are_all c.classes formed.chain b.class fb.class (eqb-true (above c.classes b.class) 0 (no_base b.flags.ctor (is_below_object c b) ctor none)) k own)
 
   delayed_fields : b.flags.ctor ≡ true → b.flags.delayed ≡ true → holds_along (known_flow c b) (fields_check c b) b.code (Some (known_at_entry b)) ≡ true
   delayed_fields ctor delayed =
       let complete = ⊎_elim (λ h. absurd (false≢true (sym (ap not delayed) ∙ h))) (λ z. z) (or_cases (not b.flags.delayed) (returns_with_fields c b) fb.delayed_fields) in
       let unready_ = each_of_parts is_unready b.code (each_so (λ s. not (is_base_or_ready s)) is_unready unready (opening b.code) order.0)
-      (begins_unready (wants_base c b) (wants_ready c b) (behind_opening b.code) (unwanted_if b.flags.ctor b.flags.delayed _ delayed) order.1) in
+      (begins_unready (wants_base c b) (wants_ready c b) (after_opening b.code) (unwanted_if b.flags.ctor b.flags.delayed _ delayed) order.1) in
       along_from (known_flow c b) (complete_check c b) (fields_check c b) is_unready (λ s k h held. asked c b ctor s k (delayed_asked c b ctor delayed s k h held)) (λ e k. refl) b.code (Some (known_at_entry b)) unready_ complete
 
   plain_fields : b.flags.ctor ≡ false → holds_along (known_flow c b) (fields_check c b) b.code (Some (known_at_entry b)) ≡ true
   plain_fields plain =
       along_each (known_flow c b) (fields_check c b) (λ s. not (is_base_or_ready s)) (λ s k h. rw plain h) (λ e k. refl) b.code (Some (known_at_entry b))
-      (each_of_parts (λ s. not (is_base_or_ready s)) b.code order.0 (plain_unwanted b.flags.ctor b.flags.delayed (is_below_object c b) _ (behind_opening b.code) plain order.1))
+      (each_of_parts (λ s. not (is_base_or_ready s)) b.code order.0 (plain_unwanted b.flags.ctor b.flags.delayed (is_below_object c b) _ (after_opening b.code) plain order.1))
 
   -- the check on fields holds along each formed body
   pub fields_along : holds_along (known_flow c b) (fields_check c b) b.code (Some (known_at_entry b)) ≡ true

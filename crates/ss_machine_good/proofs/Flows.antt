@@ -18,23 +18,23 @@ parts_or l (LoopStmt p invariants prelude e body exposes) = record { place = p; 
 parts_or l s = l
 
 module _ {S X : Type 0} (f : Flow S) (c : Check S) (Sat : S → X → Type 0) where
-  simple_behind : (s : StmtTree) (k : S) → is_simple s ≡ true → behind f s k ≡ Some (f.after s k)
-  simple_behind (AssignStmt p x e) k h = refl
-  simple_behind (WriteStmt p o g m t e) k h = refl
-  simple_behind (WriteElementStmt p a i e) k h = refl
-  simple_behind (NewStmt p x t es) k h = refl
-  simple_behind (NewArrayStmt p x t e) k h = refl
-  simple_behind (CallStmt p x callee es) k h = refl
-  simple_behind (ReadyStmt p) k h = refl
-  simple_behind (IfStmt p e a b) k h = absurd (false≢true h)
-  simple_behind (LoopStmt p invariants prelude e body exposes) k h = absurd (false≢true h)
-  simple_behind (UnpackStmt p x t) k h = refl
-  simple_behind (PackStmt p x t) k h = refl
-  simple_behind (AssertStmt p e) k h = refl
-  simple_behind (AssumeStmt p e) k h = refl
-  simple_behind (PrintStmt p e newline) k h = refl
-  simple_behind (PrintTextStmt p text newline) k h = refl
-  simple_behind (ReturnStmt p e) k h = absurd (false≢true h)
+  simple_after : (s : StmtTree) (k : S) → is_simple s ≡ true → behind f s k ≡ Some (f.after s k)
+  simple_after (AssignStmt p x e) k h = refl
+  simple_after (WriteStmt p o g m t e) k h = refl
+  simple_after (WriteElementStmt p a i e) k h = refl
+  simple_after (NewStmt p x t es) k h = refl
+  simple_after (NewArrayStmt p x t e) k h = refl
+  simple_after (CallStmt p x callee es) k h = refl
+  simple_after (ReadyStmt p) k h = refl
+  simple_after (IfStmt p e a b) k h = absurd (false≢true h)
+  simple_after (LoopStmt p invariants prelude e body exposes) k h = absurd (false≢true h)
+  simple_after (UnpackStmt p x t) k h = refl
+  simple_after (PackStmt p x t) k h = refl
+  simple_after (AssertStmt p e) k h = refl
+  simple_after (AssumeStmt p e) k h = refl
+  simple_after (PrintStmt p e newline) k h = refl
+  simple_after (PrintTextStmt p text newline) k h = refl
+  simple_after (ReturnStmt p e) k h = absurd (false≢true h)
 
   simple_checked : (s : StmtTree) (k : S) → is_simple s ≡ true → holds_at f c s k ≡ c.statement s k
   simple_checked (AssignStmt p x e) k h = refl
@@ -146,7 +146,7 @@ module _ {S X : Type 0} (f : Flow S) (c : Check S) (Sat : S → X → Type 0) wh
         known = at.known;
         so = at.so;
         checked = sym (simple_checked s at.known simple) ∙ at.checked;
-        goes_on = λ y so. record { known = f.after s at.known; left = subst (IsLeft f c Sat ds) (simple_behind s at.known simple) at.behind; so = so };
+        goes_on = λ y so. record { known = f.after s at.known; left = subst (IsLeft f c Sat ds) (simple_after s at.known simple) at.behind; so = so };
       })
       (λ again. absurd (false≢true (subst (λ z. is_simple z ≡ true) again.is simple)))
       is.left

@@ -53,7 +53,7 @@ pub record IsFollowed (c : CoreTree) (f : Frame) (s : List Object) : Type 0 wher
   pub known : (k : Check Known) → holds_along (known_flow c f.body) k f.body.code (Some (known_at_entry f.body)) ≡ true → IsKnown (known_flow c f.body) k (IsTrueOf f.body.flags.ctor) f.left (scene c f s)
   pub assigned : (k : Check (ℕ → Bool)) → holds_along assigned_flow k f.body.code (Some (is_argument f.body)) ≡ true → IsKnown assigned_flow k (AreAssigned f.body) f.left (scene c f s)
 
--- What is known of what the body b gives back: its value, and behind `base(..)` the fields of this.
+-- What is known of what the body b gives back: its value, and after `base(..)` the fields of this.
 pub record IsGiven (c : CoreTree) (b : BodyTree) (into : Target) (this : Value) (z : List Object) (v : Value) : Type 0 where
   pub non_null : is_given_back b into ≡ true → IsNotNull v
   pub fields : (x : Option ℕ) → into ≡ ToCall x → b.flags.ctor ≡ true → (g : ℕ) → (b.flags.delayed ≡ true → below c.classes b.class (field_class c.classes g) ≡ true) → HasGiven c z this g
@@ -85,14 +85,14 @@ entered_followed c b fb locals s into arguments = record {
   assigned = λ k along. known_entered assigned_flow k (AreAssigned b) b.code (is_argument b) (setting c.classes s s locals) along fb.returns arguments;
 }
 
--- ---- behind a statement
+-- ---- after a statement
 
 module _ (c : CoreTree) (f : Frame) (s : List Object) (st : StmtTree) (ds : List Due) (simple : is_simple st ≡ true) (at : f.left ≡ Statement st ∷ ds) (is : IsGoodFrame c f s) where
-  pub behind_followed : IsFollowed c f s → (z : List Object) (x : Option ℕ) (v : Value) → IsLater c.classes (entry_size f) s z →
+  pub after_followed : IsFollowed c f s → (z : List Object) (x : Option ℕ) (v : Value) → IsLater c.classes (entry_size f) s z →
       ((k : Known) → IsTrueOf f.body.flags.ctor k (scene c f z) → IsTrueOf f.body.flags.ctor (known_after c f.body st k) (scene c (steps.with_local x v (record f { left = ds })) z)) →
       ((xs : ℕ → Bool) → AreAssigned f.body xs (scene c f z) → AreAssigned f.body (λ y. is_target st y || xs y) (scene c (steps.with_local x v (record f { left = ds })) z)) →
       IsFollowed c (steps.with_local x v (record f { left = ds })) z
-  behind_followed are z x v later known_step assigned_step = record {
+  after_followed are z x v later known_step assigned_step = record {
     known = λ k along.
         let b = known_simple (known_flow c f.body) k (IsTrueOf f.body.flags.ctor) st ds (scene c f s) simple (subst (λ l. IsKnown (known_flow c f.body) k (IsTrueOf f.body.flags.ctor) l (scene c f s)) at (are.known k along)) in
         b.goes_on (scene c (steps.with_local x v (record f { left = ds })) z) (known_step b.known (later_true c (entry_size f) s z later f is.constructs b.known b.so));
@@ -104,7 +104,7 @@ module _ (c : CoreTree) (f : Frame) (s : List Object) (st : StmtTree) (ds : List
   -- one that assigns nothing
   pub quiet_followed : IsFollowed c f s → (z : List Object) → IsLater c.classes (entry_size f) s z → ((y : ℕ) → is_target st y ≡ false) → ((k : Known) → IsTrueOf f.body.flags.ctor k (scene c f z) → IsTrueOf f.body.flags.ctor (known_after c f.body st k) (scene c f z)) →
       IsFollowed c (record f { left = ds }) z
-  quiet_followed are z later none step = behind_followed are z None value.Null later step (λ xs so y h typed. so y (⊎_elim (λ target. absurd (false≢true (sym (none y) ∙ target))) (λ had. had) (or_cases (is_target st y) (xs y) h)) typed)
+  quiet_followed are z later none step = after_followed are z None value.Null later step (λ xs so y h typed. so y (⊎_elim (λ target. absurd (false≢true (sym (none y) ∙ target))) (λ had. had) (or_cases (is_target st y) (xs y) h)) typed)
 
   module _ (x : Option ℕ) (v : Value) (targets : (y : ℕ) → is_target st y ≡ is_kept_in x y) where
     target_is : (y : ℕ) → x ≡ Some y → is_target st y ≡ true
@@ -156,7 +156,7 @@ module _ (c : CoreTree) (f : Frame) (s : List Object) (is : IsGoodFrame c f s) (
       let e_typed = code_typed c.classes b e a.0 a.1 in
       let there = slice_get_within (local_types b) x fits.0 fits.1 in
       let count = is.sound.locals.count in
-      behind_followed c f s st ds refl at is are s (Some x) v (later_self c.classes (entry_size f) s)
+      after_followed c f s st ds refl at is are s (Some x) v (later_self c.classes (entry_size f) s)
       (λ k so. put_true (scene c f s) x v (omega (arith, there, count)) b.flags.ctor (is_never_null (site_of c b) k false e) (learned k e) k so
       (variable_apart b x is.sound.flags (target_variable c f s st ds refl at is x (eq-eqb x x refl)))
       (λ never. known_not_null c f s st ds refl at is k so e fits.0 v reads_ fits.2 never ev)
@@ -249,7 +249,7 @@ module _ (c : CoreTree) (f : Frame) (s : List Object) (is : IsGoodFrame c f s) (
       let k = called c f s p x callee es ds at is in
       let nn = is_non_null_type (result_of (callee_of c f.body callee)) in
       let result : nn ≡ is_non_null_type b.result = ap (λ o. is_non_null_type (result_of o)) k.is_callee ∙ ap is_non_null_type (sym same) in
-      behind_followed c f s st ds refl at is are z x v later
+      after_followed c f s st ds refl at is are z x v later
       (λ j so. subst (λ i. IsTrueOf f.body.flags.ctor i (scene c (steps.with_local x v (record f { left = ds })) z)) (sym (after j))
       (kept_true c f s st ds refl at is x v (λ y. refl) z k.body.result k.fits nn (λ h. given.non_null (sym result ∙ h)) j so))
       (kept_assigned c f s st ds refl at is x v (λ y. refl) z k.body.result k.fits (λ y e h. given.non_null (ap is_non_null_type same ∙ k.keeps y e h)))

@@ -180,7 +180,7 @@ module _ (cs : List ClassTree) (n : ℕ) where
       later_is s (s ++ new_array t i (length s) ∷ []) z (later_pushed s (new_array t i (length s)) (subst (IsOlder s) (sym same) (older_new_array s t (pos i) z h))) same
   later_new_array s t (negsuc i) z h = cc
 
-  -- an object that stands at n or behind it may become ready
+  -- an object that stands at n or after it may become ready
   pub later_ready : (s : List Object) (o : ℕ) → n ≤ o → IsLater cs n s (ready_of s o)
   later_ready s o high = later_changed (made_ready o) (record { fields = λ q f y nn null. null; ready = ready_ }) s (older_ready s o)
     where

@@ -53,7 +53,7 @@ use Rattle.ss_machine_good.proofs.CallsOfRuns.{constructs_this, with_this, call_
 use Rattle.ss_machine_good.proofs.Constructions.{found_passes, new_stack, constructor_stack}
 use Rattle.ss_machine_good.proofs.Returns.{result_is, answer_call}
 use Rattle.ss_machine_good.proofs.Runs.{run_stack}
-use Rattle.ss_machine_good.proofs.Followed.{IsFollowed, IsGiven, WillBeFollowed, AreFollowed, same_followed, later_followed, ready_followed, entered_followed, behind_followed, quiet_followed, constructed_same, kept_true, kept_assigned, assigned_followed, forked_followed, looping_followed, tested_followed, caller_followed}
+use Rattle.ss_machine_good.proofs.Followed.{IsFollowed, IsGiven, WillBeFollowed, AreFollowed, same_followed, later_followed, ready_followed, entered_followed, after_followed, quiet_followed, constructed_same, kept_true, kept_assigned, assigned_followed, forked_followed, looping_followed, tested_followed, caller_followed}
 use Rattle.ss_machine_good.proofs.Constructors.{written_followed, ready_is_followed, base_is, base_ctor, constructor_followed, this_at_end}
 
 abbrev pub IsFollowedStack : CoreTree → List Frame → List Object → Type 0
@@ -128,7 +128,7 @@ module _ (c : CoreTree) where
     on_stack : (g : Frame) (z : List Object) → IsFollowed c g z → ((n : ℕ) → IsLater c.classes n s z) → g.body ≡ f.body → g.into ≡ f.into → constructed g ≡ constructed f → IsFollowedStack c (g ∷ fs) z
     on_stack g z now later body into same = (now, same_followed c z f g fs body into same (later_followed c s z later f fs below_are))
 
-    -- behind a statement that makes nothing known
+    -- after a statement that makes nothing known
     quiet : (st : StmtTree) (ds : List Due) (z : List Object) → is_simple st ≡ true → f.left ≡ Statement st ∷ ds → ((n : ℕ) → IsLater c.classes n s z) → ((y : ℕ) → is_target st y ≡ false) → ((k : Known) → known_after c f.body st k ≡ k) → IsFollowedStack c (record f { left = ds } ∷ fs) z
     quiet st ds z simple at later none same =
         on_stack (record f { left = ds }) z (quiet_followed c f s st ds simple at is are z (later (entry_size f)) none (λ k so. subst (λ j. IsTrueOf f.body.flags.ctor j (scene c f z)) (sym (same k)) so)) later refl refl refl
@@ -160,7 +160,7 @@ module _ (c : CoreTree) where
         let not_null = arguments_not_null c f s st ds refl at is es (types_of b.params) vs (reads_evaluated c f s st ds refl at is) k.2 stands h in
         enter_then (constructor_of c t) b p (ToNew x) (value.Obj (length s) ∷ vs) (record f { left = ds }) fs s1 k.1 (new_stack c formed f s ds fs is waiting new p x t es vs at h)
         (entered b (value.Obj (length s) ∷ vs) s1 (ToNew x) ds (λ n. later_new_object c.classes n s t) (with_this b vs (length s) instance_ not_null)
-        (λ this z v later given. behind_followed c f s st ds refl at is are z x v (later_trans c.classes (entry_size f) s s1 z (later_new_object c.classes (entry_size f) s t) later)
+        (λ this z v later given. after_followed c f s st ds refl at is are z x v (later_trans c.classes (entry_size f) s s1 z (later_new_object c.classes (entry_size f) s t) later)
         (λ j so. kept_true c f s st ds refl at is x v (λ y. refl) z (Some (class_type t)) q.1 true (λ yes. given.non_null refl) j so)
         (kept_assigned c f s st ds refl at is x v (λ y. refl) z (Some (class_type t)) q.1 (λ y e nn. given.non_null refl))))
 
@@ -307,7 +307,7 @@ module _ (c : CoreTree) where
         let r = and_parts _ (fits_kept c.classes f.body x (Some (class_type t))) q.0 in
         value_then (value_of e (scene c f s)) _ (λ n en. array_then (new_array_of s t (as_int n)) o p x (record f { left = ds }) fs (λ z h.
         on_stack (steps.with_local x (value.Obj o) (record f { left = ds })) z
-        (behind_followed c f s st ds refl at is are z x (value.Obj o) (later_new_array c.classes (entry_size f) s t (as_int n) z h)
+        (after_followed c f s st ds refl at is are z x (value.Obj o) (later_new_array c.classes (entry_size f) s t (as_int n) z h)
         (λ j so. kept_true c f s st ds refl at is x (value.Obj o) (λ y. refl) z (Some (class_type t)) r.1 true (λ yes. o_not) j so)
         (kept_assigned c f s st ds refl at is x (value.Obj o) (λ y. refl) z (Some (class_type t)) r.1 (λ y is_x nn. o_not)))
         (λ k. later_new_array c.classes k s t (as_int n) z h) refl refl (constructed_same c f s st ds refl at is x (value.Obj o) (λ y. refl))))

@@ -1,11 +1,11 @@
--- The opening of a body, and the code behind it.
+-- The opening of a body, and the code after it.
 use Rattle.std.proofs.Common.{◌≡◌, Bool, true, false, not, ◌&&◌, ◌||◌, Option, Some, None, refl}
 use Rattle.std.specs.Prelude.{if◌then◌else◌}
 use Rattle.std.proofs.lemmas.Bool.{false≢true, true≢false, and_parts, and_from}
 use Rattle.ss_core.specs.Tree.{StmtTree, AssignStmt, WriteStmt, WriteElementStmt, NewStmt, NewArrayStmt, CallStmt, ReadyStmt, IfStmt, LoopStmt, UnpackStmt, PackStmt, AssertStmt, AssumeStmt, PrintStmt, PrintTextStmt, ReturnStmt, CodeTree, NoCode, Then, BodyTree, CoreTree}
 use Rattle.ss_store_rules.specs.Locals.{each, each_inside}
 use Rattle.ss_store_rules.specs.Paths.{Flow, Check, behind, at_end, holds_along, holds_at}
-use Rattle.ss_store_rules.specs.Construction.{is_base_or_ready, opening, behind_opening, is_below_object, wants_base, wants_ready}
+use Rattle.ss_store_rules.specs.Construction.{is_base_or_ready, opening, after_opening, is_below_object, wants_base, wants_ready}
 
 -- ---- tests that each statement passes
 
@@ -60,29 +60,29 @@ each_opening P (Then s code) h = let p = and_parts (each_inside P s) (each P cod
     here true i r = refl
     here false i r = and_from (each_inside P s) (each P (opening code)) i r
 
-pub each_behind : (P : StmtTree → Bool) (code : CodeTree) → each P code ≡ true → each P (behind_opening code) ≡ true
-each_behind P NoCode h = refl
-each_behind P (Then s code) h = here (is_base_or_ready s) (each_behind P code (and_parts (each_inside P s) (each P code) h).1)
+pub each_after : (P : StmtTree → Bool) (code : CodeTree) → each P code ≡ true → each P (after_opening code) ≡ true
+each_after P NoCode h = refl
+each_after P (Then s code) h = here (is_base_or_ready s) (each_after P code (and_parts (each_inside P s) (each P code) h).1)
   where
-    here : (b : Bool) → each P (behind_opening code) ≡ true → each P (if b then Then s code else behind_opening code) ≡ true
+    here : (b : Bool) → each P (after_opening code) ≡ true → each P (if b then Then s code else after_opening code) ≡ true
     here true r = h
     here false r = r
 
-pub each_of_parts : (P : StmtTree → Bool) (code : CodeTree) → each P (opening code) ≡ true → each P (behind_opening code) ≡ true → each P code ≡ true
+pub each_of_parts : (P : StmtTree → Bool) (code : CodeTree) → each P (opening code) ≡ true → each P (after_opening code) ≡ true → each P code ≡ true
 each_of_parts P NoCode h g = refl
 each_of_parts P (Then s code) h g = here (is_base_or_ready s) (each_of_parts P code) h g
   where
-    here : (b : Bool) → (each P (opening code) ≡ true → each P (behind_opening code) ≡ true → each P code ≡ true) → each P (if b then NoCode else Then s (opening code)) ≡ true → each P (if b then Then s code else behind_opening code) ≡ true → each P (Then s code) ≡ true
+    here : (b : Bool) → (each P (opening code) ≡ true → each P (after_opening code) ≡ true → each P code ≡ true) → each P (if b then NoCode else Then s (opening code)) ≡ true → each P (if b then Then s code else after_opening code) ≡ true → each P (Then s code) ≡ true
     here true r a d = d
     here false r a d = let p = and_parts (each_inside P s) (each P (opening code)) a in and_from (each_inside P s) (each P code) p.0 (r p.1 d)
 
 -- a check holds along the code where it holds along both parts
-pub along_parts : {S : Type 0} (f : Flow S) (c : Check S) (code : CodeTree) (o : Option S) → holds_along f c (opening code) o ≡ true → holds_along f c (behind_opening code) (at_end f (opening code) o) ≡ true → holds_along f c code o ≡ true
+pub along_parts : {S : Type 0} (f : Flow S) (c : Check S) (code : CodeTree) (o : Option S) → holds_along f c (opening code) o ≡ true → holds_along f c (after_opening code) (at_end f (opening code) o) ≡ true → holds_along f c code o ≡ true
 along_parts f c NoCode o h g = refl
 along_parts f c (Then s code) None h g = refl
 along_parts {S} f c (Then s code) (Some k) h g = here (is_base_or_ready s) (along_parts f c code (behind f s k)) h g
   where
-    here : (b : Bool) → (holds_along f c (opening code) (behind f s k) ≡ true → holds_along f c (behind_opening code) (at_end f (opening code) (behind f s k)) ≡ true → holds_along f c code (behind f s k) ≡ true) → holds_along f c (if b then NoCode else Then s (opening code)) (Some k) ≡ true → holds_along f c (if b then Then s code else behind_opening code) (at_end f (if b then NoCode else Then s (opening code)) (Some k)) ≡ true →
+    here : (b : Bool) → (holds_along f c (opening code) (behind f s k) ≡ true → holds_along f c (after_opening code) (at_end f (opening code) (behind f s k)) ≡ true → holds_along f c code (behind f s k) ≡ true) → holds_along f c (if b then NoCode else Then s (opening code)) (Some k) ≡ true → holds_along f c (if b then Then s code else after_opening code) (at_end f (if b then NoCode else Then s (opening code)) (Some k)) ≡ true →
         holds_along f c (Then s code) (Some k) ≡ true
     here true r a d = d
     here false r a d =

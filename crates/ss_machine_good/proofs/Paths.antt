@@ -1,4 +1,4 @@
--- A frame behind an `if`, at the head of a loop and behind its test.
+-- A frame after an `if`, at the head of a loop and after its test.
 use Rattle.std.proofs.Common.{◌≡◌, List, [], ◌∷◌, ◌++◌, Bool, true, false, ◌&&◌, Ok, refl, sym, ◌∙◌, subst, ⊎_elim, append_assoc}
 use Rattle.std.specs.Prelude.{if◌then◌else◌}
 use Rattle.std.proofs.lemmas.Bool.{true≢false, and_parts, and_from, cases_Bool}

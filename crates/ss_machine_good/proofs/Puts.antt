@@ -30,7 +30,7 @@ module _ (c : Setting) (x : ℕ) (v : Value) (within : x < length c.locals) wher
   elsewhere : (y : ℕ) → x ≢ y → local_value (with_value c x v) y ≡ local_value c y
   elsewhere y ne = ap (λ o. unwrap_or o value.Null) (set_apart c.locals x y v ne)
 
-  -- what isn't null before the assignment isn't so behind it, but for the local, which gets the value
+  -- what isn't null before the assignment isn't so after it, but for the local, which gets the value
   not_null_now : (facts : Facts) → AreNotNull facts c → IsNotNull v → AreNotNull facts (with_value c x v)
   not_null_now facts before v_not y h = ⊎_elim
       (λ is. subst (λ n. IsNotNull (local_value (with_value c x v) n)) is (subst IsNotNull (sym here) v_not))
@@ -56,7 +56,7 @@ module _ (c : Setting) (x : ℕ) (v : Value) (within : x < length c.locals) wher
       record { facts = λ z. s.facts z && not (x == z); there = rw (ne_eqb x y ne) (ap (but_local x) s.there); so = but_not_null s.facts s.so })
       (cases_eq x y)
 
-  -- what is known behind an assignment is so
+  -- what is known after an assignment is so
   pub put_true : (constructs : Bool) (non_null : Bool) (says : Bool → Facts) (k : Known) → IsTrueOf constructs k c → (constructs ≡ true → x ≢ 0) → (non_null ≡ true → IsNotNull v) → ((u : Bool) → v ≡ value.Bool u → AreNotNull (says u) c) →
       IsTrueOf constructs (with_local x non_null says k) (with_value c x v)
   put_true constructs non_null says k is no_this v_not said = record {

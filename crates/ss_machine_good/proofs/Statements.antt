@@ -1,4 +1,4 @@
--- A frame behind a statement that enters no body.
+-- A frame after a statement that enters no body.
 use Rattle.std.proofs.Common.{◌≡◌, ℕ, ℤ, pos, negsuc, ◌+◌, ◌≤◌, List, [], ◌∷◌, ◌++◌, length, Bool, true, false, not, ◌==◌, ◌&&◌, Option, Some, None, Ok, Err, eqb, refl, sym, ◌∙◌, ap, subst, arith, ⊎_elim}
 use Rattle.std.specs.Prelude.{slice_get, if◌then◌else◌, Result}
 use Rattle.std.proofs.lemmas.Bool.{false≢true, true≢false, and_parts, or_cases, or_right, cases_Bool, eqb-true, eq-eqb}
@@ -49,7 +49,7 @@ use Rattle.ss_machine_good.proofs.Fields.{field_had}
 use Rattle.ss_machine_good.specs.Later.{IsLater}
 use Rattle.ss_machine_good.specs.LaterFrames.{HasGiven, IsGoodFrame, entry_size}
 use Rattle.ss_machine_good.proofs.Later.{later_self, later_unpack, later_pack, later_write, later_write_element, later_new_array, later_ready}
-use Rattle.ss_machine_good.proofs.Behind.{each_simple, kept_is, variable_apart, later_given, MayBePut, put_variable, behind_frame, ready_as_before}
+use Rattle.ss_machine_good.proofs.Behind.{each_simple, kept_is, variable_apart, later_given, MayBePut, put_variable, after_frame, ready_as_before}
 use Rattle.ss_machine_good.proofs.Values.{before_assigned, before_known, before_fields, may_pass, reads_evaluated, known_not_null, stands_not_null}
 
 pub if_true : (k a b : Bool) → k ≡ true → (if k then a else b) ≡ true → a ≡ true
@@ -138,7 +138,7 @@ module _ (c : CoreTree) (f : Frame) (s : List Object) (st : StmtTree) (ds : List
   pub quiet_frame : (z : List Object) → IsLater c.classes (entry_size f) s z → IsGoodStore c z → ((y : ℕ) → is_target st y ≡ false) → makes_ready c st ≡ false → ((k : Known) → known_after c f.body st k ≡ k) → IsGoodFrame c (record f { left = ds }) z
   quiet_frame z later good none nothing same =
       let may = no_put z value.Null none in
-      behind_frame c f s st ds simple at is z None value.Null later good may (λ k so. subst (λ j. IsTrueOf f.body.flags.ctor j (scene c f z)) (sym (same k)) so) (ready_as_before c f s st ds simple at is z None value.Null may nothing)
+      after_frame c f s st ds simple at is z None value.Null later good may (λ k so. subst (λ j. IsTrueOf f.body.flags.ctor j (scene c f z)) (sym (same k)) so) (ready_as_before c f s st ds simple at is z None value.Null may nothing)
 
   -- ---- a local may be
 
@@ -214,7 +214,7 @@ module _ (c : CoreTree) (formed : IsFormed c) (f : Frame) (s : List Object) (ds 
             let nn_x : is_non_null_type (slice_get (local_types b) x) ≡ true = subst (λ n. is_non_null_type (slice_get (local_types b) n) ≡ true) (sym same) nn in
             stands_not_null c f s st ds refl at is e fits.0 v reads_ fits.2 stands ev (sym (ap is_non_null_type fits.1) ∙ nn_x);
       } in
-      behind_frame c f s st ds refl at is s (Some x) v (later_self c.classes (entry_size f) s) is.sound.store may
+      after_frame c f s st ds refl at is s (Some x) v (later_self c.classes (entry_size f) s) is.sound.store may
       (λ k so. put_true (scene c f s) x v (omega (arith, there, count)) b.flags.ctor (is_never_null (site_of c b) k false e) (learned k e) k so
       (variable_apart b x is.sound.flags (put_variable c f s st ds refl at is s (Some x) v may x refl))
       (λ never. known_not_null c f s st ds refl at is k so e fits.0 v reads_ fits.2 never ev)
@@ -246,7 +246,7 @@ module _ (c : CoreTree) (formed : IsFormed c) (f : Frame) (s : List Object) (ds 
       let z_good = write_good (scene c f s) b b.flags.ctor good formed.admissible o e m t g v w z typed ev ew w_ready
       (λ null. ⊎_elim (λ nn. absurd (not_null nn null)) (λ other. other) (cases_Bool (is_non_null (field_type c.classes g)))) h in
       let may = no_put c f s st ds refl at is z value.Null (λ y. refl) in
-      behind_frame c f s st ds refl at is z None value.Null (later_write c.classes (entry_size f) s v g w z not_null h) z_good may
+      after_frame c f s st ds refl at is z None value.Null (later_write c.classes (entry_size f) s v g w z not_null h) z_good may
       (λ k so. record {
         facts = so.facts;
         sides = λ x u eu. let side = so.sides x u eu in record { facts = side.facts; there = side.there; so = side.so };
@@ -308,7 +308,7 @@ module _ (c : CoreTree) (formed : IsFormed c) (f : Frame) (s : List Object) (ds 
       let same : length s ≡ o = cc in subst (λ (u : Object). u.ready ≡ true) (same_object z (length s) new.0 y new.1 (subst (λ m. slice_get z m ≡ Some y) (sym same) ey)) new.3 in
       let v_not : IsNotNull (value.Obj (length s)) = λ null. cc in
       let may = kept_may c f s st ds refl at is z x (value.Obj (length s)) (Some (class_type t)) (λ y. refl) r.1 v_typed v_ready (λ y e2 nn. v_not) in
-      behind_frame c f s st ds refl at is z x (value.Obj (length s)) (later_new_array c.classes (entry_size f) s t (as_int n) z h) z_good may
+      after_frame c f s st ds refl at is z x (value.Obj (length s)) (later_new_array c.classes (entry_size f) s t (as_int n) z h) z_good may
       (kept_known c f s st ds refl at is z x (value.Obj (length s)) may true (λ nn. v_not)) (ready_as_before c f s st ds refl at is z x (value.Obj (length s)) may refl)
 
   -- ---- `ready this`
@@ -324,7 +324,7 @@ module _ (c : CoreTree) (formed : IsFormed c) (f : Frame) (s : List Object) (ds 
       let later = later_ready c.classes (entry_size f) s o few in
       let z_good = Keeps-ready c.classes s (ready_of s o) o refl (λ x g ex null. given.1 g o x this ex null) is.sound.chain formed.admissible is.sound.store in
       let may = no_put c f s st ds refl at is (ready_of s o) value.Null (λ y. refl) in
-      behind_frame c f s st ds refl at is (ready_of s o) None value.Null later z_good may
+      after_frame c f s st ds refl at is (ready_of s o) None value.Null later z_good may
       (λ k so. record {
         facts = so.facts;
         sides = λ x u eu. let side = so.sides x u eu in record { facts = side.facts; there = side.there; so = side.so };

@@ -10,12 +10,12 @@ use Rattle.ss_store_rules.specs.Locals.{each, all_evaluated}
 use Rattle.ss_store_rules.specs.Typed.{body_at, constructor_of, is_typed}
 use Rattle.ss_store_rules.specs.Paths.{at_end, holds_along}
 use Rattle.ss_store_rules.specs.NonNull.{is_this_object}
-use Rattle.ss_store_rules.specs.Construction.{is_without_this, has_this_in_fields, keeps_this_in, only_writes_this, writes_own, has_no_base_or_ready, opening, behind_opening, begins_with, is_below_object, is_delayed_constructor, wants_base, wants_ready, is_return, has_base_without_this, writes_this_first}
+use Rattle.ss_store_rules.specs.Construction.{is_without_this, has_this_in_fields, keeps_this_in, only_writes_this, writes_own, has_no_base_or_ready, opening, after_opening, begins_with, is_below_object, is_delayed_constructor, wants_base, wants_ready, is_return, has_base_without_this, writes_this_first}
 use Rattle.ss_store_rules.specs.Formed.{IsFormed, IsFormedBody}
 use Rattle.ss_store_rules.proofs.Owners.{not_true}
 use Rattle.ss_machine_good.specs.Checks.{is_undelayed, makes_ready, ready_flow, enters_base, keeps_this, ready_asked, ready_check}
 use Rattle.ss_machine_good.proofs.Along.{IsEnough, along_each, along_where, nothing_reached}
-use Rattle.ss_machine_good.proofs.Openings.{each_both, each_behind, along_parts, wants_one}
+use Rattle.ss_machine_good.proofs.Openings.{each_both, each_after, along_parts, wants_one}
 use Rattle.ss_machine_good.proofs.Bases.{base_of}
 
 -- ---- expressions that aren't `this`
@@ -114,25 +114,25 @@ module _ (c : CoreTree) (b : BodyTree) where
     test = λ e r. refl;
   }
 
-  behind_ready : (wb wr : Bool) (code : CodeTree) (r : Bool) → begins_with wb wr code ≡ true → (wb || wr) ≡ true → has_base_without_this code ≡ true →
+  after_ready : (wb wr : Bool) (code : CodeTree) (r : Bool) → begins_with wb wr code ≡ true → (wb || wr) ≡ true → has_base_without_this code ≡ true →
       (wr ≡ false → (p : Place) (x : Option ℕ) (n : ℕ) (es : List ExprTree) (rest : CodeTree) → code ≡ Then (CallStmt p x (BaseConstructor n) es) rest → is_undelayed (body_at c n) ≡ true) → holds_along (ready_flow c) (ready_check b) code (Some r) ≡ true
-  behind_ready false false code r h w args base = absurd (false≢true w)
-  behind_ready true true (Then (CallStmt p x (BaseConstructor n) es) (Then (ReadyStmt q) code)) r h w args base =
+  after_ready false false code r h w args base = absurd (false≢true w)
+  after_ready true true (Then (CallStmt p x (BaseConstructor n) es) (Then (ReadyStmt q) code)) r h w args base =
       let r1 = r || is_undelayed (body_at c n) in
       and_from (not b.flags.ctor || ready_asked b (CallStmt p x (BaseConstructor n) es) r) _
       (or_right (not b.flags.ctor) (ready_asked b (CallStmt p x (BaseConstructor n) es) r) (or_right r _ (all_weaker is_without_this no_this without es args)))
       (and_from (not b.flags.ctor || ready_asked b (ReadyStmt q) r1) _ (or_right (not b.flags.ctor) (ready_asked b (ReadyStmt q) r1) (or_right r1 true refl))
       (along_where (ready_flow c) (ready_check b) (λ z. z ≡ true) once_ready code (Some (r1 || true)) (or_right r1 true refl)))
-  behind_ready true false (Then (CallStmt p x (BaseConstructor n) es) code) r h w args base =
+  after_ready true false (Then (CallStmt p x (BaseConstructor n) es) code) r h w args base =
       and_from (not b.flags.ctor || ready_asked b (CallStmt p x (BaseConstructor n) es) r) _
       (or_right (not b.flags.ctor) (ready_asked b (CallStmt p x (BaseConstructor n) es) r) (or_right r _ (all_weaker is_without_this no_this without es args)))
       (along_where (ready_flow c) (ready_check b) (λ z. z ≡ true) once_ready code (Some (r || is_undelayed (body_at c n))) (or_right r (is_undelayed (body_at c n)) (base refl p x n es code refl)))
-  behind_ready false true (Then (ReadyStmt q) code) r h w args base =
+  after_ready false true (Then (ReadyStmt q) code) r h w args base =
       and_from (not b.flags.ctor || ready_asked b (ReadyStmt q) r) _ (or_right (not b.flags.ctor) (ready_asked b (ReadyStmt q) r) (or_right r true refl))
       (along_where (ready_flow c) (ready_check b) (λ z. z ≡ true) once_ready code (Some (r || true)) (or_right r true refl))
-  behind_ready true true (Then (CallStmt p x (BaseConstructor n) es) code) r h w args base = absurd (false≢true h)
-  behind_ready true wr code r h w args base = absurd (false≢true h)
-  behind_ready false true code r h w args base = absurd (false≢true h)
+  after_ready true true (Then (CallStmt p x (BaseConstructor n) es) code) r h w args base = absurd (false≢true h)
+  after_ready true wr code r h w args base = absurd (false≢true h)
+  after_ready false true code r h w args base = absurd (false≢true h)
 
 undelayed_if : (ctor delayed below_object other : Bool) → ctor ≡ true → delayed ≡ false → (ctor && not delayed && (below_object || other)) ≡ false → other ≡ false
 undelayed_if true false true other h g e = absurd (true≢false e)
@@ -142,9 +142,9 @@ undelayed_if false delayed below_object other h g e = absurd (false≢true h)
 
 module _ (c : CoreTree) (formed : IsFormed c) (b : BodyTree) (fb : IsFormedBody c b) where
   -- where `ready this` isn't wanted, the base has made `this` ready
-  base_undelayed : b.flags.ctor ≡ true → b.flags.delayed ≡ false → wants_ready c b ≡ false → (p : Place) (x : Option ℕ) (n : ℕ) (es : List ExprTree) (rest : CodeTree) → behind_opening b.code ≡ Then (CallStmt p x (BaseConstructor n) es) rest → is_undelayed (body_at c n) ≡ true
+  base_undelayed : b.flags.ctor ≡ true → b.flags.delayed ≡ false → wants_ready c b ≡ false → (p : Place) (x : Option ℕ) (n : ℕ) (es : List ExprTree) (rest : CodeTree) → after_opening b.code ≡ Then (CallStmt p x (BaseConstructor n) es) rest → is_undelayed (body_at c n) ≡ true
   base_undelayed ctor undelayed unwanted p x n es rest is =
-      let typed = subst (λ z. each (is_typed c b) z ≡ true) is (each_behind (is_typed c b) b.code fb.typed) in
+      let typed = subst (λ z. each (is_typed c b) z ≡ true) is (each_after (is_typed c b) b.code fb.typed) in
       let base = base_of c formed b p x n es (and_parts (is_typed c b (CallStmt p x (BaseConstructor n) es)) (each (is_typed c b) rest) typed).0 in
       let not_delayed = undelayed_if b.flags.ctor b.flags.delayed (is_below_object c b) (is_delayed_constructor (constructor_of c (above c.classes b.class))) ctor undelayed unwanted in
       let plain : base.body.flags.delayed ≡ false = subst (λ o. is_delayed_constructor o ≡ false) base.is_the not_delayed in
@@ -154,7 +154,7 @@ module _ (c : CoreTree) (formed : IsFormed c) (b : BodyTree) (fb : IsFormedBody 
   undelayed_along ctor undelayed =
       let f = ready_flow c in
       let d = ready_check b in
-      let first = and_parts (each (only_writes_this b.class) (opening b.code)) (has_base_without_this (behind_opening b.code))
+      let first = and_parts (each (only_writes_this b.class) (opening b.code)) (has_base_without_this (after_opening b.code))
       (⊎_elim (λ h. absurd (⊎_elim (λ z. false≢true (sym (ap not ctor) ∙ z)) (λ z. false≢true (sym undelayed ∙ z)) (or_cases (not b.flags.ctor) b.flags.delayed h)))
       (λ z. z) (or_cases (not b.flags.ctor || b.flags.delayed) (writes_this_first b) fb.undelayed_this)) in
       let wants = wants_one c b ctor undelayed in
@@ -164,12 +164,12 @@ module _ (c : CoreTree) (formed : IsFormed c) (b : BodyTree) (fb : IsFormedBody 
       along_parts f d b.code (Some false)
       (along_each f d (λ s. not (is_return s) && keeps_this s)
       (λ s r h. let p = and_parts (not (is_return s)) (keeps_this s) h in or_right (not b.flags.ctor) (ready_asked b s r) (asked_inside b s r (not_true (is_return s) p.0) p.1)) (λ e r. refl) (opening b.code) (Some false) both)
-      (behind_part (at_end f (opening b.code) (Some false)) wants first.1)
+      (after_part (at_end f (opening b.code) (Some false)) wants first.1)
     where
-      behind_part : (o : Option Bool) → (wants_base c b || wants_ready c b) ≡ true → has_base_without_this (behind_opening b.code) ≡ true → holds_along (ready_flow c) (ready_check b) (behind_opening b.code) o ≡ true
-      behind_part None w args = nothing_reached (ready_flow c) (ready_check b) (behind_opening b.code)
-      behind_part (Some r) w args =
-          behind_ready c b (wants_base c b) (wants_ready c b) (behind_opening b.code) r (and_parts (has_no_base_or_ready (opening b.code)) _ fb.order).1 w args (λ unwanted. base_undelayed ctor undelayed unwanted)
+      after_part : (o : Option Bool) → (wants_base c b || wants_ready c b) ≡ true → has_base_without_this (after_opening b.code) ≡ true → holds_along (ready_flow c) (ready_check b) (after_opening b.code) o ≡ true
+      after_part None w args = nothing_reached (ready_flow c) (ready_check b) (after_opening b.code)
+      after_part (Some r) w args =
+          after_ready c b (wants_base c b) (wants_ready c b) (after_opening b.code) r (and_parts (has_no_base_or_ready (opening b.code)) _ fb.order).1 w args (λ unwanted. base_undelayed ctor undelayed unwanted)
 
   delayed_along : b.flags.delayed ≡ true → holds_along (ready_flow c) (ready_check b) b.code (Some false) ≡ true
   delayed_along delayed =

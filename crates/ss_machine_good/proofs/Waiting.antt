@@ -21,7 +21,7 @@ use Rattle.ss_machine_good.specs.Checks.{makes_ready, IsThisReady}
 use Rattle.ss_machine_good.specs.Later.{IsLater}
 use Rattle.ss_machine_good.specs.LaterFrames.{IsGoodFrame, entry_size, constructed, given_back, is_given_back, kept_in, IsAnswer, IsWaiting, AreWaiting, IsNewTo}
 use Rattle.ss_machine_good.proofs.Later.{later_trans}
-use Rattle.ss_machine_good.proofs.Behind.{put_this, variable_apart, MayBePut, target_variable, behind_frame}
+use Rattle.ss_machine_good.proofs.Behind.{put_this, variable_apart, MayBePut, target_variable, after_frame}
 use Rattle.ss_machine_good.proofs.Statements.{kept_may}
 
 -- an older store isn't longer
@@ -62,7 +62,7 @@ same_constructed f g body same = ap (λ (b : BodyTree). if b.flags.ctor then thi
     here true e = e refl
     here false e = refl
 
--- ---- behind a call
+-- ---- after a call
 
 module _ (c : CoreTree) (f : Frame) (s : List Object) (st : StmtTree) (ds : List Due) (simple : is_simple st ≡ true) (at : f.left ≡ Statement st ∷ ds) (is : IsGoodFrame c f s) where
   -- the frame waits for what the body b gives back
@@ -81,5 +81,5 @@ module _ (c : CoreTree) (f : Frame) (s : List Object) (st : StmtTree) (ds : List
     goes_on = λ z v more good answer.
         let on = later_trans c.classes (entry_size f) s s1 z (later (entry_size f)) more in
         let may = kept_may c f s st ds simple at is z (kept_in into) v (given_back b into) targets fits answer.types answer.ready (λ y e nn. answer.non_null (non_null y e nn)) in
-        behind_frame c f s st ds simple at is z (kept_in into) v on good may (known z v on answer may) (ready z v on answer may);
+        after_frame c f s st ds simple at is z (kept_in into) v on good may (known z v on answer may) (ready z v on answer may);
   }

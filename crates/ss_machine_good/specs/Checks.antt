@@ -37,7 +37,7 @@ abbrev pub is_undelayed : Option BodyTree → Bool
 is_undelayed None = false
 is_undelayed (Some b) = not b.flags.delayed
 
--- behind it `this` is ready
+-- after it `this` is ready
 abbrev pub makes_ready : CoreTree → StmtTree → Bool
 makes_ready c (ReadyStmt p) = true
 makes_ready c (CallStmt p x (BaseConstructor n) es) = is_undelayed (body_at c n)

@@ -40,7 +40,7 @@ pub record IsConstructing (c : CoreTree) (f : Frame) (s : List Object) : Type 0 
   pub object : Object
   pub there : slice_get s position ≡ Some object
   pub class : below c.classes object.class f.body.class ≡ true
-  -- behind a `new` it is of that class
+  -- after a `new` it is of that class
   pub exact : IsToNew f.into → object.class ≡ f.body.class
   -- the fields of the classes below have their values before a constructor that isn't delayed runs
   pub given : f.body.flags.delayed ≡ false → (g : ℕ) → below c.classes f.body.class (field_class c.classes g) ≡ false → HasGiven c s (this_of f.locals) g

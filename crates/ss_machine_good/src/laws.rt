@@ -55,7 +55,7 @@ pub fn tests_say_so()
     ensures { (c : Setting) (tys : List Ty) (constructs : Bool) → IsGoodSetting c tys constructs → (k : Known) → IsTrueOf constructs k c → (e : ExprTree) (w : Value) → type_of c.classes tys e ≡ Some ty.Bool → value_of e c ≡ Ok w → IsTrueOf constructs (known_tested e (as_bool w) k) c }
 {}
 
-/// What is known behind an assignment is so.
+/// What is known after an assignment is so.
 pub fn assignment_keeps_known()
     ensures { (c : Setting) (x : ℕ) (v : Value) → x < length c.locals → (constructs : Bool) (non_null : Bool) (says : Bool → Facts) (k : Known) → IsTrueOf constructs k c → (constructs ≡ true → x ≢ 0) → (non_null ≡ true → IsNotNull v) → ((u : Bool) → v ≡ value.Bool u → AreNotNull (says u) c) →
         IsTrueOf constructs (with_local x non_null says k) (with_value c x v) }

@@ -7,7 +7,7 @@ use Rattle.ss_store_rules.specs.Typed.{body_at}
 use Rattle.ss_machine_rules.specs.States.{ToCall, State, Running, Done, Failed, Stopped, Next, Goes, Over, Fails, Stops, frame_at_entry}
 use Rattle.ss_machine_rules.specs.Steps.{next}
 
--- the state behind a step that did this, where there was this store and this was printed before
+-- the state after a step that did this, where there was this store and this was printed before
 abbrev pub then_is : List Object → List ℕ → Next → State
 then_is before_it before (Goes fs s piece) = Running fs s (before ++ piece)
 then_is before_it before (Over s) = Done s before

@@ -10,8 +10,8 @@ use Rattle.ss_store_rules.specs.Values.{Setting, setting}
 use Rattle.ss_store_rules.specs.Locals.{types_of}
 use Rattle.ss_machine_rules.specs.Frame.{Span}
 
--- what is left to do in a body, one by one: a statement; or the test of a loop, behind which come its body and then the loop again, or what is left
--- behind it
+-- what is left to do in a body, one by one: a statement; or the test of a loop, after which come its body and then the loop again, or what is left
+-- after it
 pub data Due : Type 0 where
   Statement : StmtTree → Due
   Test : ExprTree → CodeTree → StmtTree → Due

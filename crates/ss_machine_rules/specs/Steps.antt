@@ -95,7 +95,7 @@ abbrev pub with_ready : List Object → Value → List Object
 with_ready s (value.Obj o) = ready_of s o
 with_ready s v = s
 
--- The caller goes on with the result; behind a `new` with the object, which is ready from then on.
+-- The caller goes on with the result; after a `new` with the object, which is ready from then on.
 abbrev pub back : Target → Value → Value → Frame → List Frame → List Object → Next
 back (ToCall x) v this caller callers s = goes (with_local x v caller) callers s
 back (ToNew x) v this caller callers s = goes (with_local x this caller) callers (with_ready s this)
@@ -170,7 +170,7 @@ print (Some e) newline c f fs s = with_value (value_of e (scene c f s)) (λ v. G
 
 -- ---- one step
 
--- one statement, with the frame that is left behind it, the frames that wait, and the store
+-- one statement, with the frame that is left after it, the frames that wait, and the store
 abbrev pub act : CoreTree → StmtTree → Frame → List Frame → List Object → Next
 act c (AssignStmt at x e) f fs s = with_value (value_of e (scene c f s)) (λ v. goes (with_local (Some x) v f) fs s)
 act c (WriteStmt at o g m t e) f fs s = with_value (value_of o (scene c f s)) (λ v. with_value (value_of e (scene c f s)) (λ w. changes (write_of c.classes s v g w) at f fs))
@@ -191,7 +191,7 @@ act c (PrintStmt at e newline) f fs s = print e newline c f fs s
 act c (PrintTextStmt at text newline) f fs s = Goes (f ∷ fs) s (line text newline)
 act c (ReturnStmt at e) f fs s = with_value (result_value e (scene c f s)) (λ v. exit c at v f fs s)
 
--- the test of a loop: its body and then the loop again, or what is left behind it
+-- the test of a loop: its body and then the loop again, or what is left after it
 abbrev pub test : CoreTree → ExprTree → CodeTree → StmtTree → Frame → List Frame → List Object → Next
 test c e body loop f fs s = with_value (value_of e (scene c f s)) (λ v. goes (if as_bool v then go_into (dues body ++ Statement loop ∷ []) f else f) fs s)
 

@@ -29,32 +29,32 @@ named_all h terms i all past is = is ∙ ap (λ ts. flat_map h (map view.named_o
 
 -- ---- captured parameters
 
--- what stands behind the first i parameters
-abbrev pub captured_behind : List Local → List Value → ℕ → List Value
-captured_behind params values i = captured_among (map view.local_of (drop i params)) (drop i values)
+-- what stands after the first i parameters
+abbrev pub captured_after : List Local → List Value → ℕ → List Value
+captured_after params values i = captured_among (map view.local_of (drop i params)) (drop i values)
 
 none_among : (ps : List LocalTree) → captured_among ps [] ≡ []
 none_among [] = refl
 none_among (p ∷ ps) = refl
 
-pub none_behind : (params : List Local) (values : List Value) (i : ℕ) → length values ≤ i → captured_behind params values i ≡ []
-none_behind params values i past = ap (captured_among (map view.local_of (drop i params))) (drop_all i values past) ∙ none_among (map view.local_of (drop i params))
+pub none_after : (params : List Local) (values : List Value) (i : ℕ) → length values ≤ i → captured_after params values i ≡ []
+none_after params values i past = ap (captured_among (map view.local_of (drop i params))) (drop_all i values past) ∙ none_among (map view.local_of (drop i params))
 
-pub none_left : (params : List Local) (values : List Value) (i : ℕ) → length params ≤ i → captured_behind params values i ≡ []
+pub none_left : (params : List Local) (values : List Value) (i : ℕ) → length params ≤ i → captured_after params values i ≡ []
 none_left params values i past = ap (λ ps. captured_among (map view.local_of ps) (drop i values)) (drop_all i params past)
 
-behind_at : (params : List Local) (values : List Value) (i : ℕ) (p : Local) (v : Value) → i < length params → i < length values → captured_behind params values i ≡ (if (get_or params i p).captured then get_or values i v ∷ captured_behind params values (i + 1) else captured_behind params values (i + 1))
-behind_at params values i p v l m = ap (λ ps. captured_among (map view.local_of ps) (drop i values)) (drop_more params i p l) ∙ ap (captured_among (map view.local_of (get_or params i p ∷ drop (i + 1) params))) (drop_more values i v m)
+after_at : (params : List Local) (values : List Value) (i : ℕ) (p : Local) (v : Value) → i < length params → i < length values → captured_after params values i ≡ (if (get_or params i p).captured then get_or values i v ∷ captured_after params values (i + 1) else captured_after params values (i + 1))
+after_at params values i p v l m = ap (λ ps. captured_among (map view.local_of ps) (drop i values)) (drop_more params i p l) ∙ ap (captured_among (map view.local_of (get_or params i p ∷ drop (i + 1) params))) (drop_more values i v m)
 
-pub captured_more : (params : List Local) (values : List Value) (i : ℕ) (p : Local) (v : Value) (before whole : List Value) → i < length params → i < length values → (get_or params i p).captured ≡ true → before ++ captured_behind params values i ≡ whole → (before ++ get_or values i v ∷ []) ++ captured_behind params values (i + 1) ≡ whole
+pub captured_more : (params : List Local) (values : List Value) (i : ℕ) (p : Local) (v : Value) (before whole : List Value) → i < length params → i < length values → (get_or params i p).captured ≡ true → before ++ captured_after params values i ≡ whole → (before ++ get_or values i v ∷ []) ++ captured_after params values (i + 1) ≡ whole
 captured_more params values i p v before whole l m marked is =
-    append_assoc before (get_or values i v ∷ []) (captured_behind params values (i + 1))
-    ∙ ap (λ b. before ++ (if b then get_or values i v ∷ captured_behind params values (i + 1) else captured_behind params values (i + 1))) (sym marked)
-    ∙ ap (λ r. before ++ r) (sym (behind_at params values i p v l m))
+    append_assoc before (get_or values i v ∷ []) (captured_after params values (i + 1))
+    ∙ ap (λ b. before ++ (if b then get_or values i v ∷ captured_after params values (i + 1) else captured_after params values (i + 1))) (sym marked)
+    ∙ ap (λ r. before ++ r) (sym (after_at params values i p v l m))
     ∙ is
 
-pub captured_same : (params : List Local) (values : List Value) (i : ℕ) (p : Local) (v : Value) (before whole : List Value) → i < length params → i < length values → (get_or params i p).captured ≡ false → before ++ captured_behind params values i ≡ whole → before ++ captured_behind params values (i + 1) ≡ whole
+pub captured_same : (params : List Local) (values : List Value) (i : ℕ) (p : Local) (v : Value) (before whole : List Value) → i < length params → i < length values → (get_or params i p).captured ≡ false → before ++ captured_after params values i ≡ whole → before ++ captured_after params values (i + 1) ≡ whole
 captured_same params values i p v before whole l m unmarked is =
-    ap (λ b. before ++ (if b then get_or values i v ∷ captured_behind params values (i + 1) else captured_behind params values (i + 1))) (sym unmarked)
-    ∙ ap (λ r. before ++ r) (sym (behind_at params values i p v l m))
+    ap (λ b. before ++ (if b then get_or values i v ∷ captured_after params values (i + 1) else captured_after params values (i + 1))) (sym unmarked)
+    ∙ ap (λ r. before ++ r) (sym (after_at params values i p v l m))
     ∙ is

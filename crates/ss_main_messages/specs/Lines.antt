@@ -11,12 +11,12 @@ line_length (b ∷ bs) = if b == 10 then 0 else suc (line_length bs)
 abbrev pub first_line : List ℕ → List ℕ
 first_line bytes = take (line_length bytes) bytes
 
--- what stands behind the first line end
+-- what stands after the first line end
 abbrev pub after_line : List ℕ → List ℕ
 after_line [] = []
 after_line (b ∷ bs) = if b == 10 then bs else after_line bs
 
--- what stands behind so many lines
+-- what stands after so many lines
 abbrev pub after_lines : ℕ → List ℕ → List ℕ
 after_lines zero bytes = bytes
 after_lines (suc n) bytes = after_lines n (after_line bytes)
@@ -37,7 +37,7 @@ part_at line column = take 120 (drop (hidden column) line)
 abbrev pub shown : ℕ → ℕ
 shown b = if b == 9 then 32 else if nat_lt b 32 || nat_lt 126 b then 63 else b
 
--- a mark behind so many blanks
+-- a mark after so many blanks
 abbrev pub mark : ℕ → List ℕ
 mark blanks = replicate blanks 32 ++ codes "^\n"
 

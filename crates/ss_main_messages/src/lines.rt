@@ -2,7 +2,7 @@
 
 ghost use Rattle.std.specs.Prelude.{◌≡◌, ◌≤◌, IfOk, drop, length, map, replicate, string_bytes, take};
 ghost use Rattle.ss_lexer.specs.Reading.{without_mark as without_mark_of};
-ghost use Rattle.ss_main_messages.specs.Lines.{after_line as after_line_of, after_lines as after_lines_of, first_line as first_line_of, hidden as hidden_of, line_at as line_of_place, line_length as line_length_of, mark as mark_behind, marked as marked_part, part_at as part_of, pointed as pointed_at, shown as shown_as};
+ghost use Rattle.ss_main_messages.specs.Lines.{after_line as after_line_of, after_lines as after_lines_of, first_line as first_line_of, hidden as hidden_of, line_at as line_of_place, line_length as line_length_of, mark as mark_after, marked as marked_part, part_at as part_of, pointed as pointed_at, shown as shown_as};
 
 use ss_core::Place;
 use std::alloc::{AllocError, Global};
@@ -30,7 +30,7 @@ fn first_line(bytes: &[u8]) -> &[u8]
     &bytes[..line_length(bytes)]
 }
 
-// What stands behind the first line end.
+// What stands after the first line end.
 fn after_line(bytes: &[u8]) -> &[u8]
     ensures { result.now ≡ after_line_of bytes.now }
 {
@@ -44,7 +44,7 @@ fn after_line(bytes: &[u8]) -> &[u8]
     rest
 }
 
-// What stands behind so many lines.
+// What stands after so many lines.
 fn after_lines(lines: u32, bytes: &[u8]) -> &[u8]
     ensures { result.now ≡ after_lines_of lines bytes.now }
 {
@@ -91,7 +91,7 @@ fn front(bytes: &[u8], count: usize) -> &[u8]
     }
 }
 
-// What stands behind the first bytes, so many.
+// What stands after the first bytes, so many.
 fn behind(bytes: &[u8], count: usize) -> &[u8]
     ensures { result.now ≡ drop count bytes.now }
 {
@@ -145,16 +145,16 @@ fn blanks(alloc: Global, count: u32) -> Result<String, AllocError>
     Ok(text)
 }
 
-// A mark behind so many blanks.
+// A mark after so many blanks.
 fn mark(alloc: Global, count: u32) -> Result<String, AllocError>
-    ensures { IfOk result (λ text. string_bytes text ≡ mark_behind count) }
+    ensures { IfOk result (λ text. string_bytes text ≡ mark_after count) }
 {
     let mut text = blanks(alloc, count)?;
     text.push_str("^\n")?;
     Ok(text)
 }
 
-// A part of a line, and below it a mark behind so many blanks; nothing where the part is empty.
+// A part of a line, and below it a mark after so many blanks; nothing where the part is empty.
 fn marked(alloc: Global, part: &[u8], count: u32) -> Result<String, AllocError>
     ensures { IfOk result (λ text. string_bytes text ≡ marked_part part.now count) }
 {

@@ -8,7 +8,7 @@ use ss_search_answers::Countered;
 use ss_top_words::Limits;
 use std::alloc::{AllocError, Global};
 
-// A line of a verdict: the kind of a check that isn't shown to hold, where it stands, and what is said behind it.
+// A line of a verdict: the kind of a check that isn't shown to hold, where it stands, and what is said after it.
 #[derive(Clone, Copy, Debug, PartialEq, Eq)]
 struct Unproved<'a> {
     kind: &'a str,
@@ -25,7 +25,7 @@ fn read_place(text: &str) -> Option<Place> {
     })
 }
 
-// The line `PREFIX: KIND at LINE:COLUMN in CLASS.NAME`, with what is said behind it.
+// The line `PREFIX: KIND at LINE:COLUMN in CLASS.NAME`, with what is said after it.
 fn read_line<'a>(line: &'a str, prefix: &str) -> Option<Unproved<'a>> {
     let (kind, behind) = line.strip_prefix(prefix)?.split_once(" at ")?;
     let (place, behind) = behind.split_once(" in ")?;

@@ -1,4 +1,4 @@
--- What is done at a point, and what is known behind it.
+-- What is done at a point, and what is known after it.
 use Rattle.std.proofs.Common.{◌≡◌, ◌++◌, ◌+◌, ◌<◌, ◌≤◌, ℕ, suc, length, map, drop, get_or, List, [], ◌∷◌, Bool, Option, Some, None, refl, sym, ap, ◌∙◌, add-one, append_assoc, append-nil}
 use Rattle.std.specs.Prelude.{option_map}
 use Rattle.ss_faults.specs.declared.Fault.{Fault}
@@ -16,7 +16,7 @@ use Rattle.ss_typed.specs.Shapes.{local_of}
 use Rattle.std.proofs.lemmas.List.{drop_all}
 use Rattle.ss_ast.proofs.Loops.{drop_item}
 use Rattle.ss_nonnull_seen.specs.Paths.{with_fact, assigned_known, fields_known, starts_never}
-use Rattle.ss_nonnull.specs.Walks.{known_behind_all, all_faults}
+use Rattle.ss_nonnull.specs.Walks.{known_after_all, all_faults}
 
 -- ---- declared locals
 
@@ -29,23 +29,23 @@ pub declared_known : (s : NullContext) (d : DeclaratorTree) (b : Bool) (k l : Op
 declared_known s d b None l is q = q
 declared_known s d b (Some k) l is q = q ∙ ap (λ (x : Bool). Some (with_fact d.local x k)) (is ∙ never_is s k d.initial)
 
-more_known : (s : NullContext) (d : DeclaratorTree) (ds : List DeclaratorTree) (k : Option Known) → known_behind_all s (d ∷ ds) k ≡ known_behind_all s ds (option_map (known_declared s d) k)
+more_known : (s : NullContext) (d : DeclaratorTree) (ds : List DeclaratorTree) (k : Option Known) → known_after_all s (d ∷ ds) k ≡ known_after_all s ds (option_map (known_declared s d) k)
 more_known s d ds None = refl
 more_known s d ds (Some k) = refl
 
-none_known : (s : NullContext) (k : Option Known) → known_behind_all s [] k ≡ k
+none_known : (s : NullContext) (k : Option Known) → known_after_all s [] k ≡ k
 none_known s None = refl
 none_known s (Some k) = refl
 
 -- a loop over declared locals
 pub one_known : (s : NullContext) (list : List TypedDeclarator) (i : ℕ) (d : TypedDeclarator) (k l total : Option Known)
     → i < length list → d ≡ get_or list i d → l ≡ option_map (known_declared s (declarator d)) k
-    → known_behind_all s (map declarator (drop i list)) k ≡ total → known_behind_all s (map declarator (drop (i + 1) list)) l ≡ total
+    → known_after_all s (map declarator (drop i list)) k ≡ total → known_after_all s (map declarator (drop (i + 1) list)) l ≡ total
 one_known s list i d k l total within is q h =
-    ap (λ (n : ℕ). known_behind_all s (map declarator (drop n list)) l) (add-one i)
-    ∙ ap (known_behind_all s (map declarator (drop (suc i) list))) q
+    ap (λ (n : ℕ). known_after_all s (map declarator (drop n list)) l) (add-one i)
+    ∙ ap (known_after_all s (map declarator (drop (suc i) list))) q
     ∙ sym (more_known s (declarator d) (map declarator (drop (suc i) list)) k)
-    ∙ ap (λ (ds : List TypedDeclarator). known_behind_all s (map declarator ds) k) (sym (drop_item list i d within is))
+    ∙ ap (λ (ds : List TypedDeclarator). known_after_all s (map declarator ds) k) (sym (drop_item list i d within is))
     ∙ h
 
 pub one_noted : (s : NullContext) (list : List TypedDeclarator) (i : ℕ) (d : TypedDeclarator) (k l : Option Known) (f0 f1 total : List Fault)
@@ -63,9 +63,9 @@ one_noted s list i d k l f0 f1 total within is q noted h =
     ∙ h
 
 pub all_known : (s : NullContext) (list : List TypedDeclarator) (i : ℕ) (k total : Option Known) → length list ≤ i
-    → known_behind_all s (map declarator (drop i list)) k ≡ total → k ≡ total
+    → known_after_all s (map declarator (drop i list)) k ≡ total → k ≡ total
 all_known s list i k total l h =
-    sym (none_known s k) ∙ ap (λ (ds : List TypedDeclarator). known_behind_all s (map declarator ds) k) (sym (drop_all i list l)) ∙ h
+    sym (none_known s k) ∙ ap (λ (ds : List TypedDeclarator). known_after_all s (map declarator ds) k) (sym (drop_all i list l)) ∙ h
 
 pub all_noted : (s : NullContext) (list : List TypedDeclarator) (i : ℕ) (k : Option Known) (f total : List Fault) → length list ≤ i
     → f ++ all_faults s (map declarator (drop i list)) k ≡ total → f ≡ total
@@ -94,7 +94,7 @@ assigned_is s st l o e x b (Some k) r st_is x_is b_is q =
     ∙ ap Some (left_is s l o e k)
     ∙ ap (λ (t : SimpleTree). Some (known_done s t k)) (sym st_is)
 
--- one change behind another
+-- one change after another
 pub twice : (f g : Known → Known) (k l m : Option Known) → l ≡ option_map f k → m ≡ option_map g l → m ≡ option_map (λ (x : Known). g (f x)) k
 twice f g None l m p q = q ∙ ap (option_map g) p
 twice f g (Some k) l m p q = q ∙ ap (option_map g) p

@@ -1,4 +1,4 @@
--- What is known behind statements, and the faults along them.
+-- What is known after statements, and the faults along them.
 use Rattle.std.proofs.Common.{◌≡◌, ◌++◌, ◌+◌, ◌<◌, ◌≤◌, ℕ, suc, length, map, drop, get_or, List, Bool, true, false, Option, Some, None, refl, sym, ap, ◌∙◌, add-one, append_assoc, append-nil}
 use Rattle.std.specs.Prelude.{option_map, option_and_then}
 use Rattle.ss_core.specs.declared.names.Place.{Place}
@@ -17,7 +17,7 @@ use Rattle.std.proofs.lemmas.List.{drop_all}
 use Rattle.ss_ast.proofs.Loops.{drop_item}
 use Rattle.ss_nonnull_seen.specs.Seen.{Seen, seen}
 use Rattle.ss_nonnull_seen.specs.Paths.{told, untold, met_paths, left_by}
-use Rattle.ss_nonnull.specs.Walks.{known_behind, known_behind_block, known_at_end, known_behind_first, known_at_head, stmt_faults, along_faults, heading_faults, step_faults_of, test_seen, test_faults}
+use Rattle.ss_nonnull.specs.Walks.{known_behind, known_after_block, known_at_end, known_after_first, known_at_head, stmt_faults, along_faults, heading_faults, step_faults_of, test_seen, test_faults}
 use Rattle.ss_nonnull_seen.proofs.Seeing.{joined}
 
 -- ---- heads of loops
@@ -117,12 +117,12 @@ while_noted s p e es st v k head repeated f0 f1 f2 h is rep q r =
     ∙ ap (λ (x : Option Known). f0 ++ (inside s x e ++ stmt_faults s st (option_map (told (says e true)) x))) h
 
 for_is : (s : NullContext) (p : Place) (first : Option InitTree) (e : Option ExprTree) (step : Option SimpleTree) (es : List ExprTree) (st : StmtTree) (k : Option Known)
-    → left_by (is_true (test_of p e)) (says (test_of p e) false) (known_at_head st step (known_behind_first s first k)) ≡ known_behind s (ForOf p first e step es st) k
+    → left_by (is_true (test_of p e)) (says (test_of p e) false) (known_at_head st step (known_after_first s first k)) ≡ known_behind s (ForOf p first e step es st) k
 for_is s p first e step es st None = left_nowhere (is_true (test_of p e)) (says (test_of p e) false)
 for_is s p first e step es st (Some k) = refl
 
 pub for_known : (s : NullContext) (p : Place) (first : Option InitTree) (e : Option ExprTree) (step : Option SimpleTree) (es : List ExprTree) (st : StmtTree) (v : Seen) (k begun head r : Option Known)
-    → begun ≡ known_behind_first s first k → head ≡ known_at_head st step begun → v ≡ test_seen s head p e → r ≡ left_by v.is_true v.fails head
+    → begun ≡ known_after_first s first k → head ≡ known_at_head st step begun → v ≡ test_seen s head p e → r ≡ left_by v.is_true v.fails head
     → r ≡ known_behind s (ForOf p first e step es st) k
 for_known s p first e step es st v k begun head r b h is q =
     q ∙ ap (λ (w : Seen). left_by w.is_true w.fails head) is ∙ ap (left_by (is_true (test_of p e)) (says (test_of p e) false)) (h ∙ ap (known_at_head st step) b)
@@ -130,7 +130,7 @@ for_known s p first e step es st v k begun head r b h is q =
 
 pub for_noted : (s : NullContext) (p : Place) (first : Option InitTree) (e : Option ExprTree) (step : Option SimpleTree) (es : List ExprTree) (st : StmtTree) (v : Seen)
     (k begun head repeated end : Option Known) (f0 f1 f2 f3 f4 : List Fault)
-    → begun ≡ known_behind_first s first k → head ≡ known_at_head st step begun → v ≡ test_seen s head p e → repeated ≡ option_map (told v.holds) head → end ≡ known_behind s st repeated
+    → begun ≡ known_after_first s first k → head ≡ known_at_head st step begun → v ≡ test_seen s head p e → repeated ≡ option_map (told v.holds) head → end ≡ known_behind s st repeated
     → f1 ≡ f0 ++ heading_faults s first k → f2 ≡ f1 ++ test_faults s head p e → f3 ≡ f2 ++ stmt_faults s st repeated → f4 ≡ f3 ++ step_faults_of s step end
     → f4 ≡ f0 ++ stmt_faults s (ForOf p first e step es st) k
 for_noted s p first e step es st v k begun head repeated end f0 f1 f2 f3 f4 b h is rep last q r t u =
@@ -148,7 +148,7 @@ ends_nowhere : (s : NullContext) (ss : StmtTrees) → known_at_end s ss None ≡
 ends_nowhere s NoMore = refl
 ends_nowhere s (Before st ss) = refl
 
-pub block_is : (s : NullContext) (p end : Place) (ss : StmtTrees) (k : Option Known) → known_at_end s ss k ≡ known_behind_block s (BlockOf p ss end) k
+pub block_is : (s : NullContext) (p end : Place) (ss : StmtTrees) (k : Option Known) → known_at_end s ss k ≡ known_after_block s (BlockOf p ss end) k
 block_is s p end ss None = ends_nowhere s ss
 block_is s p end ss (Some k) = refl
 

@@ -10,7 +10,7 @@ use Rattle.ss_typed.specs.View.{Behind, grouped, expr}
 use Rattle.ss_faults.specs.declared.Fault.{Fault}
 use Rattle.ss_nonnull_rules.specs.NonNull.{NullContext, Known}
 use Rattle.ss_nonnull_rules.specs.Faults.{inside}
-use Rattle.ss_typed.specs.Parts.{link_behind, step_behind}
+use Rattle.ss_typed.specs.Parts.{link_after, step_after}
 use Rattle.std.proofs.lemmas.List.{take_all}
 use Rattle.ss_typed.proofs.Grouping.{chain_is, path_is, grouped_more}
 use Rattle.ss_nonnull_seen.specs.Seen.{Seen, seen, IsSeen, Leads}
@@ -18,25 +18,25 @@ use Rattle.ss_nonnull_seen.specs.Seen.{Seen, seen, IsSeen, Leads}
 pub chain_walked : (s : NullContext) (k : Option Known) (f0 f1 f2 : List Fault) (v0 v1 : Seen) (p : Place) (first : Box TypedExpr Global) (links : Vec TypedLink Global) (e f : TypedExpr) (ls : List TypedLink)
     → e ≡ view.Chain p first links → f ≡ first.value → ls ≡ links.items
     → v0 ≡ seen s k (expr f) → f1 ≡ f0 ++ inside s k (expr f)
-    → Leads s k f1 v0 f2 v1 (λ (x : ExprTree). grouped p x (map link_behind ls))
+    → Leads s k f1 v0 f2 v1 (λ (x : ExprTree). grouped p x (map link_after ls))
     → IsSeen s k f0 f2 v1 (expr e)
 chain_walked s k f0 f1 f2 v0 v1 p first links e f ls is f_is ls_is h q leads =
-    let whole : expr e ≡ grouped p (expr f) (map link_behind ls) =
+    let whole : expr e ≡ grouped p (expr f) (map link_after ls) =
     ap expr is ∙ chain_is p first links
-    ∙ ap (λ (x : TypedExpr). grouped p (expr x) (map link_behind links.items)) (sym f_is)
-    ∙ ap (λ (xs : List TypedLink). grouped p (expr f) (map link_behind xs)) (sym ls_is) in
+    ∙ ap (λ (x : TypedExpr). grouped p (expr x) (map link_after links.items)) (sym f_is)
+    ∙ ap (λ (xs : List TypedLink). grouped p (expr f) (map link_after xs)) (sym ls_is) in
     subst (λ (t : ExprTree). IsSeen s k f0 f2 v1 t) (sym whole) (leads.on (expr f) f0 (record { is = h; noted = q }))
 
 pub path_walked : (s : NullContext) (k : Option Known) (f0 f1 f2 : List Fault) (v0 v1 : Seen) (p : Place) (first : Box TypedExpr Global) (steps : Vec TypedStep Global) (e f : TypedExpr) (ls : List TypedStep)
     → e ≡ view.Path p first steps → f ≡ first.value → ls ≡ steps.items
     → v0 ≡ seen s k (expr f) → f1 ≡ f0 ++ inside s k (expr f)
-    → Leads s k f1 v0 f2 v1 (λ (x : ExprTree). grouped p x (map step_behind ls))
+    → Leads s k f1 v0 f2 v1 (λ (x : ExprTree). grouped p x (map step_after ls))
     → IsSeen s k f0 f2 v1 (expr e)
 path_walked s k f0 f1 f2 v0 v1 p first steps e f ls is f_is ls_is h q leads =
-    let whole : expr e ≡ grouped p (expr f) (map step_behind ls) =
+    let whole : expr e ≡ grouped p (expr f) (map step_after ls) =
     ap expr is ∙ path_is p first steps
-    ∙ ap (λ (x : TypedExpr). grouped p (expr x) (map step_behind steps.items)) (sym f_is)
-    ∙ ap (λ (xs : List TypedStep). grouped p (expr f) (map step_behind xs)) (sym ls_is) in
+    ∙ ap (λ (x : TypedExpr). grouped p (expr x) (map step_after steps.items)) (sym f_is)
+    ∙ ap (λ (xs : List TypedStep). grouped p (expr f) (map step_after xs)) (sym ls_is) in
     subst (λ (t : ExprTree). IsSeen s k f0 f2 v1 t) (sym whole) (leads.on (expr f) f0 (record { is = h; noted = q }))
 
 -- the same part by another name

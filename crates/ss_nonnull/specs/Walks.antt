@@ -2,7 +2,7 @@
 use Rattle.std.specs.Prelude.{List, Option, option_map, option_and_then}
 use Rattle.ss_faults.specs.declared.Fault.{Fault}
 use Rattle.ss_typed.specs.Tree.{ExprTree, SimpleTree, InitTree, DeclaratorTree, BlockTree, StmtTree, StmtTrees}
-use Rattle.ss_paths.specs.Paths.{behind, behind_block, at_end, all_declared, behind_first, test_of, declared_faults, first_faults, step_faults, faults_at, faults_in, faults_along}
+use Rattle.ss_paths.specs.Paths.{behind, after_block, at_end, all_declared, behind_first, test_of, declared_faults, first_faults, step_faults, faults_at, faults_in, faults_along}
 use Rattle.ss_nonnull_rules.specs.Facts.{forgotten}
 use Rattle.ss_nonnull_rules.specs.NonNull.{NullContext, Known, known_flow}
 use Rattle.ss_nonnull_rules.specs.Faults.{inside, null_check}
@@ -12,8 +12,8 @@ use Rattle.ss_nonnull_seen.specs.Seen.{Seen, seen}
 abbrev pub known_behind : NullContext → StmtTree → Option Known → Option Known
 known_behind s st k = option_and_then (behind (known_flow s) st) k
 
-abbrev pub known_behind_block : NullContext → BlockTree → Option Known → Option Known
-known_behind_block s b k = option_and_then (behind_block (known_flow s) b) k
+abbrev pub known_after_block : NullContext → BlockTree → Option Known → Option Known
+known_after_block s b k = option_and_then (after_block (known_flow s) b) k
 
 abbrev pub known_at_end : NullContext → StmtTrees → Option Known → Option Known
 known_at_end s ss k = at_end (known_flow s) ss k
@@ -27,16 +27,16 @@ block_faults s b k = faults_in (known_flow s) (null_check s) b k
 abbrev pub along_faults : NullContext → StmtTrees → Option Known → List Fault
 along_faults s ss k = faults_along (known_flow s) (null_check s) ss k
 
-abbrev pub known_behind_all : NullContext → List DeclaratorTree → Option Known → Option Known
-known_behind_all s ds k = option_map (all_declared (known_flow s) ds) k
+abbrev pub known_after_all : NullContext → List DeclaratorTree → Option Known → Option Known
+known_after_all s ds k = option_map (all_declared (known_flow s) ds) k
 
 abbrev pub all_faults : NullContext → List DeclaratorTree → Option Known → List Fault
 all_faults s ds k = declared_faults (known_flow s) (null_check s) ds k
 
 -- ---- a `for`
 
-abbrev pub known_behind_first : NullContext → Option InitTree → Option Known → Option Known
-known_behind_first s first k = behind_first (known_flow s) first k
+abbrev pub known_after_first : NullContext → Option InitTree → Option Known → Option Known
+known_after_first s first k = behind_first (known_flow s) first k
 
 abbrev pub heading_faults : NullContext → Option InitTree → Option Known → List Fault
 heading_faults s first k = first_faults (known_flow s) (null_check s) first k

@@ -30,7 +30,7 @@ fn context_of_body<'p>(alloc: Global, fields: &Fields<'p>, checked: &TypedBody) 
     }
 }
 
-// `: base(..)`, which stands behind the initializers.
+// `: base(..)`, which stands after the initializers.
 fn check_base_call(
     context: &NullContext<'_>,
     found: &mut Vec<Fault>,

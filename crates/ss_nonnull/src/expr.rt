@@ -6,7 +6,7 @@ ghost use Rattle.ss_typed.specs.Tree.{ExprTree, NotOf, OldOf, BinaryOf, ElementO
 ghost use Rattle.ss_typed.specs.View.{expr, grouped};
 ghost use Rattle.ss_nonnull_rules.specs.NonNull.{is_set_result, known_right};
 ghost use Rattle.ss_nonnull_rules.specs.Faults.{inside, handed, wanted_if, parameters, body_in_table, constructor_parameters};
-ghost use Rattle.ss_typed.specs.Parts.{link_behind, step_behind};
+ghost use Rattle.ss_typed.specs.Parts.{link_after, step_after};
 ghost use Rattle.ss_nonnull_seen.specs.Called.{called_types};
 ghost use Rattle.ss_nonnull_seen.specs.Codes.{path_of, context_of, seen_of};
 ghost use Rattle.ss_nonnull_seen.specs.Seen.{Leads, seen, plain, by_type};
@@ -231,7 +231,7 @@ pub fn check_wanted(
     Ok(head)
 }
 
-// The links of a chain, behind its first operand.
+// The links of a chain, after its first operand.
 #[cycle(expr)]
 fn check_links(
     context: &NullContext<'_>,
@@ -242,7 +242,7 @@ fn check_links(
     links: &[TypedLink],
 ) -> Result<Seen, AllocError>
     ensures { IfOk result (λ v. Leads (context_of context.now) (path_of known.now) found.old.items (seen_of first) found.new.items (seen_of v)
-        (λ (e : ExprTree). grouped place e (map link_behind links.now))) }
+        (λ (e : ExprTree). grouped place e (map link_after links.now))) }
 {
     let mut head = first;
     for link in links {
@@ -260,7 +260,7 @@ fn check_link(
     head: Seen,
     link: &TypedLink,
 ) -> Result<Seen, AllocError>
-    ensures { IfOk result (λ v. Leads (context_of context.now) (path_of known.now) found.old.items (seen_of head) found.new.items (seen_of v) (link_behind link.now place)) }
+    ensures { IfOk result (λ v. Leads (context_of context.now) (path_of known.now) found.old.items (seen_of head) found.new.items (seen_of v) (link_after link.now place)) }
 {
     let alloc = context.alloc;
     match link {
@@ -333,7 +333,7 @@ fn check_right(
     }
 }
 
-// The steps of a path, behind what it begins with.
+// The steps of a path, after what it begins with.
 #[cycle(expr)]
 fn check_steps(
     context: &NullContext<'_>,
@@ -344,7 +344,7 @@ fn check_steps(
     steps: &[TypedStep],
 ) -> Result<Seen, AllocError>
     ensures { IfOk result (λ v. Leads (context_of context.now) (path_of known.now) found.old.items (seen_of first) found.new.items (seen_of v)
-        (λ (e : ExprTree). grouped place e (map step_behind steps.now))) }
+        (λ (e : ExprTree). grouped place e (map step_after steps.now))) }
 {
     let mut head = first;
     for step in steps {
@@ -362,7 +362,7 @@ fn check_step(
     head: Seen,
     step: &TypedStep,
 ) -> Result<Seen, AllocError>
-    ensures { IfOk result (λ v. Leads (context_of context.now) (path_of known.now) found.old.items (seen_of head) found.new.items (seen_of v) (step_behind step.now place)) }
+    ensures { IfOk result (λ v. Leads (context_of context.now) (path_of known.now) found.old.items (seen_of head) found.new.items (seen_of v) (step_after step.now place)) }
 {
     match step {
         TypedStep::Field(field, ty) => { Ok(field_read(context, known, place, *field, *ty, &head)) }

@@ -145,7 +145,7 @@ fn context_in<'p>(
     }
 }
 
-// The initializers of the class at this place, before whose fields there are so many; how many there are behind it.
+// The initializers of the class at this place, before whose fields there are so many; how many there are after it.
 fn check_class(
     alloc: Global,
     program: &Typed,

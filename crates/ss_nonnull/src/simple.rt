@@ -8,7 +8,7 @@ ghost use Rattle.ss_nonnull_rules.specs.Faults.{inside, inside_if, starts, hande
 ghost use Rattle.ss_nonnull_seen.specs.Codes.{path_of, context_of, seen_of};
 ghost use Rattle.ss_nonnull_seen.specs.Seen.{seen};
 ghost use Rattle.ss_nonnull_seen.specs.Paths.{starts_never, fields_known, assigned_known};
-ghost use Rattle.ss_nonnull.specs.Walks.{known_behind_all, all_faults, known_behind_first, heading_faults, step_faults_of, test_seen, test_faults};
+ghost use Rattle.ss_nonnull.specs.Walks.{known_after_all, all_faults, known_after_first, heading_faults, step_faults_of, test_seen, test_faults};
 
 use crate::expr::{check, check_arguments, check_wanted};
 use ss_ast::AssignOperator;
@@ -148,7 +148,7 @@ pub fn check_declarators(
     found: &mut Vec<Fault>,
     declarators: &[TypedDeclarator],
 ) -> Result<Option<Known>, AllocError>
-    ensures known { IfOk result (λ k. path_of k ≡ known_behind_all (context_of context.now) (map declarator declarators.now) (path_of known)) }
+    ensures known { IfOk result (λ k. path_of k ≡ known_after_all (context_of context.now) (map declarator declarators.now) (path_of known)) }
     ensures noted { OnOk result (found.new.items ≡ found.old.items ++ all_faults (context_of context.now) (map declarator declarators.now) (path_of known)) }
 {
     let mut reached = known;
@@ -160,7 +160,7 @@ pub fn check_declarators(
 
 // ---- simple statements
 
-// Behind an assignment of what isn't null, or of what may be.
+// After an assignment of what isn't null, or of what may be.
 fn assigned(
     context: &NullContext<'_>,
     known: Option<Known>,
@@ -234,7 +234,7 @@ pub fn check_first(
     found: &mut Vec<Fault>,
     first: &Option<TypedInit>,
 ) -> Result<Option<Known>, AllocError>
-    ensures known { IfOk result (λ k. path_of k ≡ known_behind_first (context_of context.now) (option_map init_of first.now) (path_of known)) }
+    ensures known { IfOk result (λ k. path_of k ≡ known_after_first (context_of context.now) (option_map init_of first.now) (path_of known)) }
     ensures noted { OnOk result (found.new.items ≡ found.old.items ++ heading_faults (context_of context.now) (option_map init_of first.now) (path_of known)) }
 {
     match first {

@@ -1,4 +1,4 @@
-// Statements: the faults along them, and what is known behind them.
+// Statements: the faults along them, and what is known after them.
 
 ghost use Rattle.std.specs.Prelude.{◌≡◌, ◌++◌, List, None, IfOk, OnOk, map, option_map};
 ghost use Rattle.ss_core.specs.declared.names.Place.{Place as PlaceValue};
@@ -6,7 +6,7 @@ ghost use Rattle.ss_typed.specs.Tree.{ExprTree, WhileOf, ForOf, stmt_trees};
 ghost use Rattle.ss_typed.specs.View.{expr, simple_of, init_of, block, stmt_of};
 ghost use Rattle.ss_typed.specs.Assigned.{assigned, step_locals};
 ghost use Rattle.ss_nonnull_seen.specs.Codes.{path_of, context_of};
-ghost use Rattle.ss_nonnull.specs.Walks.{known_behind, known_behind_block, known_at_end, known_at_head, stmt_faults, block_faults, along_faults};
+ghost use Rattle.ss_nonnull.specs.Walks.{known_behind, known_after_block, known_at_end, known_at_head, stmt_faults, block_faults, along_faults};
 
 use crate::expr::check;
 use crate::simple::{
@@ -47,7 +47,7 @@ fn at_head_of_for(
     Ok(head)
 }
 
-/// Notes the faults along a statement, and says what is known behind it.
+/// Notes the faults along a statement, and says what is known after it.
 #[cycle(stmt)]
 fn check_stmt(
     context: &NullContext<'_>,
@@ -163,7 +163,7 @@ pub fn check_block(
     found: &mut Vec<Fault>,
     inner: &TypedBlock,
 ) -> Result<Option<Known>, AllocError>
-    ensures known { IfOk result (λ k. path_of k ≡ known_behind_block (context_of context.now) (block inner.now) (path_of known)) }
+    ensures known { IfOk result (λ k. path_of k ≡ known_after_block (context_of context.now) (block inner.now) (path_of known)) }
     ensures noted { OnOk result (found.new.items ≡ found.old.items ++ block_faults (context_of context.now) (block inner.now) (path_of known)) }
 {
     let behind = check_all(context, known, found, &inner.statements)?;

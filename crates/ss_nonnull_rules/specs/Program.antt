@@ -42,7 +42,7 @@ initializers_from p t n (f ∷ fs) (g ∷ gs) = initializer_faults (initializer_
 abbrev pub null_context_of : TypedTree → BodyTree → NullContext
 null_context_of p b = record { program = p; class = b.class; numbers = field_numbers p b.class; constructs = b.flags.ctor; in_old = false; result = b.result }
 
--- `: base(..)` stands behind the initializers
+-- `: base(..)` stands after the initializers
 abbrev pub base_faults : TypedTree → BodyTree → Option BaseTree → List Fault
 base_faults p b None = []
 base_faults p b (Some base) = handed_to_base (null_context_of p b) (only_fields (assigned_by_initializers p b.class)) base.arguments

@@ -22,7 +22,7 @@ pub one_among : (x : Option ℕ) → among (listed x) ≡ the_one x
 one_among None = refl
 one_among (Some x) = either_none (only x)
 
--- one list behind another
+-- one list after another
 pub joined : (before mid now x y : List Fault) → mid ≡ before ++ x → now ≡ mid ++ y → now ≡ before ++ (x ++ y)
 joined before mid now x y p q = q ∙ ap (λ (l : List Fault). l ++ y) p ∙ append_assoc before x y
 

@@ -31,7 +31,7 @@ assigned_known assign.Multiply x b k = k
 abbrev pub fields_known : Numbers → SimpleTree → Known → Known
 fields_known n s k = record { facts = k.facts; fields = assigned_by n s k.fields }
 
--- behind the field at place n
+-- after the field at place n
 abbrev pub with_begun : ℕ → Bool → Known → Known
 with_begun n is_begun k = record {
   facts = k.facts;
@@ -43,7 +43,7 @@ met_paths None l = l
 met_paths (Some k) None = Some k
 met_paths (Some k) (Some l) = Some (known_met k l)
 
--- behind a loop on a test
+-- after a loop on a test
 abbrev pub left_by : Bool → Set → Option Known → Option Known
 left_by is_true g k = if is_true then None else option_map (told g) k
 

@@ -157,11 +157,11 @@ side_of v a = if v then a.holds else a.fails
 
 -- ---- one part more
 
--- behind faults that were there before, an expression was read up to where this is known of it
+-- after faults that were there before, an expression was read up to where this is known of it
 pub record IsSeen (s : NullContext) (k : Option Known) (before now : List Fault) (v : Seen) (e : ExprTree) : Type 0 where
   pub is : v ≡ seen s k e
   pub noted : now ≡ before ++ inside s k e
 
--- what stands behind any expression that was read, by the faults and what is known of it
+-- what stands after any expression that was read, by the faults and what is known of it
 pub record Leads (s : NullContext) (k : Option Known) (old : List Fault) (from : Seen) (new : List Fault) (to : Seen) (behind : ExprTree → ExprTree) : Type 0 where
   pub on : (e : ExprTree) (before : List Fault) → IsSeen s k before old from e → IsSeen s k before new to (behind e)

@@ -71,7 +71,7 @@ impl Known {
         }
     }
 
-    // Behind a simple statement, what it does to locals aside.
+    // After a simple statement, what it does to locals aside.
     fn assign(&mut self, numbers: Numbers, stmt: &TypedSimple) -> Result<(), AllocError>
         ensures { IfOk result (λ u. known_of self.new ≡ fields_known (numbers_of numbers) (simple_of stmt.now) (known_of self.old)) }
     {
@@ -97,7 +97,7 @@ impl Known {
         }
     }
 
-    // Behind the initializer of the field at this place of the class, where there is one.
+    // After the initializer of the field at this place of the class, where there is one.
     fn begin(&mut self, place: usize, is_begun: bool) -> Result<(), AllocError>
         ensures { IfOk result (λ u. known_of self.new ≡ with_begun place is_begun (known_of self.old)) }
     {
@@ -183,7 +183,7 @@ pub fn forget(known: Option<Known>, locals: &[usize]) -> Result<Option<Known>, A
     }
 }
 
-/// Behind a declared local that starts with a value that isn't null, or with one that may be.
+/// After a declared local that starts with a value that isn't null, or with one that may be.
 pub fn declare(
     known: Option<Known>,
     local: usize,
@@ -218,7 +218,7 @@ pub fn set_left(
     }
 }
 
-/// Behind a simple statement, what it does to locals aside.
+/// After a simple statement, what it does to locals aside.
 pub fn assign(
     known: Option<Known>,
     numbers: Numbers,
@@ -235,7 +235,7 @@ pub fn assign(
     }
 }
 
-/// Behind the initializer of the field at this place of the class, where there is one.
+/// After the initializer of the field at this place of the class, where there is one.
 pub fn begin(
     known: Option<Known>,
     place: usize,
@@ -276,7 +276,7 @@ pub fn meet(one: Option<Known>, other: Option<Known>) -> Option<Known>
     }
 }
 
-/// Behind a loop, on whose test these locals aren't null where it is false: one on the literal `true` is left by a return alone.
+/// After a loop, on whose test these locals aren't null where it is false: one on the literal `true` is left by a return alone.
 pub fn leave(
     head: Option<Known>,
     is_true: bool,

@@ -10,12 +10,12 @@ use Rattle.ss_typed.specs.declared.expr.TypedExpr.TheOpen as shape
 use Rattle.ss_typed.specs.declared.expr.TypedExpr.TheOpen.{TypedLink-F, TypedStep-F}
 use Rattle.ss_typed.specs.Tree.{ExprTree}
 use Rattle.ss_typed.specs.View.{Behind, grouped, link_step, step_step, expr}
-use Rattle.ss_typed.specs.Parts.{link_behind, step_behind}
+use Rattle.ss_typed.specs.Parts.{link_after, step_after}
 use Rattle.ss_typed.proofs.Grouping.{chain_is, link_shape, path_is, step_shape, quantified_is}
 use Rattle.ss_owners_rules.specs.Words.{Allowed, misplaced}
 use Rattle.ss_owners.specs.Parts.{no_place, nothing, link_words, links_words, step_words, steps_words}
 
--- one list behind another
+-- one list after another
 pub joined : (f0 f1 f2 x y : List Place) → f1 ≡ f0 ++ x → f2 ≡ f1 ++ y → f2 ≡ f0 ++ (x ++ y)
 joined f0 f1 f2 x y p q = q ∙ ap (λ (l : List Place). l ++ y) p ∙ append_assoc f0 x y
 
@@ -29,15 +29,15 @@ link_added a (shape.Operation op e) p t = refl
 link_added a (shape.Is c) p t = sym (append-nil (misplaced a t))
 link_added a (shape.As c) p t = sym (append-nil (misplaced a t))
 
-words_link : (a : Allowed) (l : TypedLink) (p : Place) (t : ExprTree) → misplaced a (link_behind l p t) ≡ misplaced a t ++ link_words a l
+words_link : (a : Allowed) (l : TypedLink) (p : Place) (t : ExprTree) → misplaced a (link_after l p t) ≡ misplaced a t ++ link_words a l
 words_link a l p t =
     let s = link_shape l in
     ap (λ (b : Behind). misplaced a (b p t)) s.is ∙ link_added a s.shape p t ∙ sym (ap (λ (b : Behind). misplaced a t ++ misplaced a (b no_place nothing)) s.is)
 
-words_links : (a : Allowed) (p : Place) (t : ExprTree) (ls : List TypedLink) → misplaced a (grouped p t (map link_behind ls)) ≡ misplaced a t ++ links_words a ls
+words_links : (a : Allowed) (p : Place) (t : ExprTree) (ls : List TypedLink) → misplaced a (grouped p t (map link_after ls)) ≡ misplaced a t ++ links_words a ls
 words_links a p t [] = sym (append-nil (misplaced a t))
 words_links a p t (l ∷ ls) =
-    words_links a p (link_behind l p t) ls
+    words_links a p (link_after l p t) ls
     ∙ ap (λ x. x ++ links_words a ls) (words_link a l p t)
     ∙ append_assoc (misplaced a t) (link_words a l) (links_words a ls)
 
@@ -59,15 +59,15 @@ step_added a (shape.Element e) p t = refl
 step_added a shape.Length p t = sym (append-nil (misplaced a t))
 step_added a (shape.Call m ty es) p t = refl
 
-words_step : (a : Allowed) (s : TypedStep) (p : Place) (t : ExprTree) → misplaced a (step_behind s p t) ≡ misplaced a t ++ step_words a s
+words_step : (a : Allowed) (s : TypedStep) (p : Place) (t : ExprTree) → misplaced a (step_after s p t) ≡ misplaced a t ++ step_words a s
 words_step a s p t =
     let made = step_shape s in
     ap (λ (b : Behind). misplaced a (b p t)) made.is ∙ step_added a made.shape p t ∙ sym (ap (λ (b : Behind). misplaced a t ++ misplaced a (b no_place nothing)) made.is)
 
-words_steps : (a : Allowed) (p : Place) (t : ExprTree) (ss : List TypedStep) → misplaced a (grouped p t (map step_behind ss)) ≡ misplaced a t ++ steps_words a ss
+words_steps : (a : Allowed) (p : Place) (t : ExprTree) (ss : List TypedStep) → misplaced a (grouped p t (map step_after ss)) ≡ misplaced a t ++ steps_words a ss
 words_steps a p t [] = sym (append-nil (misplaced a t))
 words_steps a p t (s ∷ ss) =
-    words_steps a p (step_behind s p t) ss
+    words_steps a p (step_after s p t) ss
     ∙ ap (λ x. x ++ steps_words a ss) (words_step a s p t)
     ∙ append_assoc (misplaced a t) (step_words a s) (steps_words a ss)
 

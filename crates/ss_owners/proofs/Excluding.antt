@@ -1,4 +1,4 @@
--- Attributes behind those that a loop has gone over.
+-- Attributes after those that a loop has gone over.
 use Rattle.std.proofs.Common.{◌≡◌, ◌++◌, ◌+◌, ◌<◌, ℕ, length, take, drop, get_or, List, [], ◌∷◌, map, Bool, true, false, string_bytes, refl, sym, ap, ◌∙◌, append_assoc}
 use Rattle.std.specs.Prelude.{◌||◌}
 use Rattle.std.specs.List.{list_any}
@@ -8,7 +8,7 @@ use Rattle.ss_ast.specs.declared.expr.Name.{Name}
 use Rattle.ss_ast.specs.Expressions.{NameTree, name_tree}
 use Rattle.std.proofs.lemmas.List.{map-append}
 use Rattle.ss_ast.proofs.Loops.{drop_next, take_next}
-use Rattle.ss_owners_rules.specs.Attributes.{Names, excludes, is_excluded, is_bad, bad_behind}
+use Rattle.ss_owners_rules.specs.Attributes.{Names, excludes, is_excluded, is_bad, bad_after}
 use Rattle.ss_owners.specs.Bearers.{places_if}
 
 or_false : (b : Bool) → (b || false) ≡ b
@@ -36,14 +36,14 @@ last_passed n bs i k x m l next e text not_excluded =
 
 -- one more attribute
 pub bad_more : (may : Names) (bs : List Name) (i : ℕ) (x : Name) (b : Bool) (f0 f1 all : List Place)
-    → f0 ++ bad_behind may (map name_tree (take i bs)) (map name_tree (drop i bs)) ≡ all → i < length bs → x ≡ get_or bs i x
+    → f0 ++ bad_after may (map name_tree (take i bs)) (map name_tree (drop i bs)) ≡ all → i < length bs → x ≡ get_or bs i x
     → b ≡ is_bad may (map name_tree (take i bs)) (name_tree x) → f1 ≡ f0 ++ places_if b x.place
-    → f1 ++ bad_behind may (map name_tree (take (i + 1) bs)) (map name_tree (drop (i + 1) bs)) ≡ all
+    → f1 ++ bad_after may (map name_tree (take (i + 1) bs)) (map name_tree (drop (i + 1) bs)) ≡ all
 bad_more may bs i x b f0 f1 all so_far l e bad added =
     let before = map name_tree (take i bs) in
     let behind = map name_tree (drop (i + 1) bs) in
-    ap (λ (z : List NameTree). f1 ++ bad_behind may z behind) (passed_next bs i x l e)
-    ∙ ap (λ (z : List Place). z ++ bad_behind may (before ++ name_tree x ∷ []) behind) (added ∙ ap (λ (z : Bool). f0 ++ places_if z x.place) bad)
-    ∙ append_assoc f0 (places_if (is_bad may before (name_tree x)) x.place) (bad_behind may (before ++ name_tree x ∷ []) behind)
-    ∙ sym (ap (λ (zs : List Name). f0 ++ bad_behind may before (map name_tree zs)) (drop_next bs i x l e))
+    ap (λ (z : List NameTree). f1 ++ bad_after may z behind) (passed_next bs i x l e)
+    ∙ ap (λ (z : List Place). z ++ bad_after may (before ++ name_tree x ∷ []) behind) (added ∙ ap (λ (z : Bool). f0 ++ places_if z x.place) bad)
+    ∙ append_assoc f0 (places_if (is_bad may before (name_tree x)) x.place) (bad_after may (before ++ name_tree x ∷ []) behind)
+    ∙ sym (ap (λ (zs : List Name). f0 ++ bad_after may before (map name_tree zs)) (drop_next bs i x l e))
     ∙ so_far

@@ -5,7 +5,7 @@ pub use Rattle.ss_core.specs.Parts.{no_place}
 use Rattle.ss_typed.specs.declared.expr.TypedLink.{TypedLink}
 use Rattle.ss_typed.specs.declared.expr.TypedStep.{TypedStep}
 use Rattle.ss_typed.specs.Tree.{ExprTree}
-use Rattle.ss_typed.specs.Parts.{link_behind, step_behind}
+use Rattle.ss_typed.specs.Parts.{link_after, step_after}
 pub use Rattle.ss_typed.specs.Parts.{nothing}
 use Rattle.ss_owners_rules.specs.Words as words
 use Rattle.ss_owners_rules.specs.Words.{misplaced}
@@ -20,10 +20,10 @@ allowed_of allowed.EveryWord = words.EveryWord
 
 -- what a link or a step adds to the places in what stands before it
 abbrev pub link_words : words.Allowed → TypedLink → List Place
-link_words a l = misplaced a (link_behind l no_place nothing)
+link_words a l = misplaced a (link_after l no_place nothing)
 
 abbrev pub step_words : words.Allowed → TypedStep → List Place
-step_words a s = misplaced a (step_behind s no_place nothing)
+step_words a s = misplaced a (step_after s no_place nothing)
 
 abbrev pub links_words : words.Allowed → List TypedLink → List Place
 links_words a [] = []

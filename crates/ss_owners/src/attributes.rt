@@ -80,7 +80,7 @@ fn add_if(is_bad: bool, place: Place, found: &mut Vec<Place>) -> Result<(), Allo
     Ok(())
 }
 
-/// Adds the places of the attributes that may not stand there, or not behind those before them.
+/// Adds the places of the attributes that may not stand there, or not after those before them.
 pub fn find_bad(on: Bearer, attributes: &[Name], found: &mut Vec<Place>) -> Result<(), AllocError>
     ensures { OnOk result (found.new.items ≡ found.old.items ++ bad_attributes (names_of on) (map name_tree attributes.now)) }
 {

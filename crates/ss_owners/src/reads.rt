@@ -5,22 +5,22 @@ ghost use Rattle.ss_core.specs.declared.names.Place.{Place as PlaceValue};
 ghost use Rattle.ss_core.specs.declared.names.Mark.{Mark as MarkValue};
 ghost use Rattle.ss_typed.specs.Tree.{ExprTree, arguments};
 ghost use Rattle.ss_typed.specs.View.{expr, grouped};
-ghost use Rattle.ss_typed.specs.Parts.{link_behind, step_behind};
+ghost use Rattle.ss_typed.specs.Parts.{link_after, step_after};
 ghost use Rattle.ss_owners_rules.specs.Admissible.{smallest, inadmissible, inadmissible_each};
-ghost use Rattle.ss_owners.specs.Reads.{reached, other_reached, nothing_reached, this_reached, behind_field, links_reads, link_reads, Leads};
+ghost use Rattle.ss_owners.specs.Reads.{reached, other_reached, nothing_reached, this_reached, after_field, links_reads, link_reads, Leads};
 
 use crate::marks::{is_owned_field, is_rep_field};
 use ss_core::{FieldId, Mark, Place};
 use ss_typed::{TypedExpr, TypedLink, TypedStep};
 use std::alloc::AllocError;
 
-/// What an expression is to the step behind it.
+/// What an expression is to the step after it.
 #[derive(Clone, Copy)]
 pub struct Reached {
     pub is_this: bool,
     /// It is a path to what `this` owns.
     pub is_owned: bool,
-    /// It is a `result` that has no type, or stands behind one.
+    /// It is a `result` that has no type, or stands after one.
     pub is_untyped: bool,
 }
 
@@ -52,8 +52,8 @@ fn this() -> Reached
 }
 
 // A field of what is reached.
-fn behind_field(marks: &[Mark], before: Reached, field: FieldId) -> Reached
-    ensures { result ≡ behind_field marks.now before field.0 }
+fn after_field(marks: &[Mark], before: Reached, field: FieldId) -> Reached
+    ensures { result ≡ after_field marks.now before field.0 }
 {
     let is_rep = before.is_this && is_rep_field(marks, field);
     Reached {
@@ -63,7 +63,7 @@ fn behind_field(marks: &[Mark], before: Reached, field: FieldId) -> Reached
     }
 }
 
-// Adds the place of a read that isn't admissible, unless a smaller one within it, behind so many places, has been found.
+// Adds the place of a read that isn't admissible, unless a smaller one within it, after so many places, has been found.
 fn add_unless(
     is_admissible: bool,
     place: Place,
@@ -82,7 +82,7 @@ fn add_unless(
 
 // ---- expressions
 
-/// Adds the places of the smallest reads in the expression that aren't admissible, and says what it is to the step behind it.
+/// Adds the places of the smallest reads in the expression that aren't admissible, and says what it is to the step after it.
 #[cycle(reads)]
 pub fn find_reads(
     marks: &[Mark],
@@ -111,7 +111,7 @@ pub fn find_reads(
         TypedExpr::Chain(_, first, links) => {
             let head = find_reads(marks, first, found)?;
             find_in_links(marks, links, found)?;
-            Ok(behind_links(head, links))
+            Ok(after_links(head, links))
         }
         TypedExpr::Path(place, first, steps) => {
             let start = found.len();
@@ -150,9 +150,9 @@ fn find_in_operand(
 // ---- chains
 
 // A chain that begins so. Without links it is what it begins with.
-fn behind_links(head: Reached, links: &[TypedLink]) -> Reached
+fn after_links(head: Reached, links: &[TypedLink]) -> Reached
     ensures { (ms : List MarkValue) → (p : PlaceValue) → (e : ExprTree) → head ≡ reached ms e
-        → result ≡ reached ms (grouped p e (map link_behind links.now)) }
+        → result ≡ reached ms (grouped p e (map link_after links.now)) }
 {
     if links.is_empty() { head } else { nothing() }
 }
@@ -186,7 +186,7 @@ fn find_in_link(marks: &[Mark], link: &TypedLink, found: &mut Vec<Place>) -> Res
 
 // ---- paths
 
-// The steps of a path, behind what it begins with.
+// The steps of a path, after what it begins with.
 #[cycle(reads)]
 fn find_in_steps(
     marks: &[Mark],
@@ -196,7 +196,7 @@ fn find_in_steps(
     steps: &[TypedStep],
     found: &mut Vec<Place>,
 ) -> Result<Reached, AllocError>
-    ensures { IfOk result (λ r. Leads marks.now start found.old.items first found.new.items r (λ (e : ExprTree). grouped place e (map step_behind steps.now))) }
+    ensures { IfOk result (λ r. Leads marks.now start found.old.items first found.new.items r (λ (e : ExprTree). grouped place e (map step_after steps.now))) }
 {
     let mut head = first;
     for step in steps {
@@ -214,12 +214,12 @@ fn find_in_step(
     step: &TypedStep,
     found: &mut Vec<Place>,
 ) -> Result<Reached, AllocError>
-    ensures { IfOk result (λ r. Leads marks.now start found.old.items head found.new.items r (step_behind step.now place)) }
+    ensures { IfOk result (λ r. Leads marks.now start found.old.items head found.new.items r (step_after step.now place)) }
 {
     match step {
         TypedStep::Field(field, _) => {
             add_unless(head.is_this || head.is_owned, place, start, found)?;
-            Ok(behind_field(marks, head, *field))
+            Ok(after_field(marks, head, *field))
         }
         TypedStep::Element(index) => {
             find_reads(marks, index, found)?;

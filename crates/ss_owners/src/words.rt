@@ -138,7 +138,7 @@ fn find_in_word(
     find_words(allowed, operand, found)
 }
 
-// What stands behind the first operand of a chain.
+// What stands after the first operand of a chain.
 #[cycle(words)]
 fn find_in_links(
     allowed: Allowed,
@@ -167,7 +167,7 @@ fn find_in_link(
     }
 }
 
-// What stands behind the beginning of a path.
+// What stands after the beginning of a path.
 #[cycle(words)]
 fn find_in_steps(
     allowed: Allowed,

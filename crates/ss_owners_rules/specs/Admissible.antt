@@ -25,7 +25,7 @@ is_owned_path ms e = false
 
 -- ---- reads
 
--- `result` where there is none, and what is written behind it: a field leaves no trace there, and an element is none that is read
+-- `result` where there is none, and what is written after it: a field leaves no trace there, and an element is none that is read
 abbrev pub is_untyped : ExprTree → Bool
 is_untyped (ResultOf p t) = is_none t
 is_untyped (ElementOf p a i) = is_untyped a
@@ -39,7 +39,7 @@ smallest is_admissible p (q ∷ qs) = q ∷ qs
 
 abbrev mutual
   -- The smallest reads in an invariant that aren't admissible, each at its first byte. A field is read of `this` or of what it owns, and
-  -- an element of an array that it owns. What `this.f` means is a field of the class or of one above. Behind a `result` that has no type
+  -- an element of an array that it owns. What `this.f` means is a field of the class or of one above. After a `result` that has no type
   -- nothing is read, so there the word alone is at fault.
   pub inadmissible : List Mark → ExprTree → List Place
   inadmissible ms (FieldOf p e f t) = smallest (is_this e || is_owned_path ms e) p (inadmissible ms e)

@@ -40,10 +40,10 @@ is_excluded before n = list_any (λ (b : NameTree). excludes b.text n) before
 abbrev pub is_bad : Names → List NameTree → NameTree → Bool
 is_bad may before a = not (may a.text) || is_excluded before a.text
 
--- the attributes that may not stand there, or not behind those before them
-abbrev pub bad_behind : Names → List NameTree → List NameTree → List Place
-bad_behind may before [] = []
-bad_behind may before (a ∷ more) = (if is_bad may before a then a.place ∷ [] else []) ++ bad_behind may (before ++ a ∷ []) more
+-- the attributes that may not stand there, or not after those before them
+abbrev pub bad_after : Names → List NameTree → List NameTree → List Place
+bad_after may before [] = []
+bad_after may before (a ∷ more) = (if is_bad may before a then a.place ∷ [] else []) ++ bad_after may (before ++ a ∷ []) more
 
 abbrev pub bad_attributes : Names → List NameTree → List Place
-bad_attributes may attributes = bad_behind may [] attributes
+bad_attributes may attributes = bad_after may [] attributes

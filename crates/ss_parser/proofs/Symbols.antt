@@ -1,4 +1,4 @@
--- A value, and the symbol behind it.
+-- A value, and the symbol after it.
 use Rattle.std.proofs.Common.{◌≡◌, List, [], ◌∷◌, Option, Some, None, Result, Ok, Err, refl, ap}
 use Rattle.ss_ast.specs.declared.token.Symbol.{Symbol}
 use Rattle.ss_grammar.specs.declared.fault.Fault.{Fault}
@@ -12,7 +12,7 @@ abbrev behind : {B : Type 0} → Result (B × List Piece) (Fault × List Piece) 
 behind (Ok x) = x.1
 behind (Err e) = []
 
--- a token that is there, whatever is given behind it
+-- a token that is there, whatever is given after it
 pub taken : {A B : Type 0} (f : Piece → Option B) (v : A) (ts : List Piece) (b : B) (rest : List Piece) → take f give ts ≡ Ok (b, rest) → take f (λ _. give v) ts ≡ Ok (v, rest)
 taken f v [] b rest e = absurd cc
 taken {A} {B} f v (t ∷ ts) b rest e = at (f t) e

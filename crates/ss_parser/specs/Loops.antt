@@ -1,4 +1,4 @@
--- What stands behind the heading of a loop, read as one part.
+-- What stands after the heading of a loop, read as one part.
 use Rattle.std.specs.Prelude.{ℕ, List, Ok}
 use Rattle.ss_ast.specs.Expressions.{ExprTree}
 use Rattle.ss_ast.specs.Statements.{StmtTree}

@@ -13,7 +13,7 @@ use ss_parser_expressions::LEVELS;
 use ss_parser_expressions::refusal::refused;
 use std::alloc::Global;
 
-/// The block that begins with the token `at`, and the number of the token behind it, which is there where the tokens end
+/// The block that begins with the token `at`, and the number of the token after it, which is there where the tokens end
 /// with the end of the text. Refused with 10 where the tokens
 /// so far aren't whole and the next one cannot go on, and with 11 where it opens the 65th level.
 pub fn parse_block(alloc: Global, tokens: &[Token], at: usize) -> Result<(Block, usize), FrontStop>

@@ -57,7 +57,7 @@ fn parse_declarator(
     parse_initial(alloc, depth, name, rest)
 }
 
-// The declared names behind the first.
+// The declared names after the first.
 fn parse_more_declarators(
     alloc: Global,
     depth: u32,
@@ -77,7 +77,7 @@ fn parse_more_declarators(
     Ok((declarators, rest))
 }
 
-/// The declarators of a declaration, behind the first name.
+/// The declarators of a declaration, after the first name.
 #[tactic(auto, unfolding(ss_grammar_statements::specs::Parser::decls_from))]
 pub fn parse_decls_from(
     alloc: Global,
@@ -108,7 +108,7 @@ pub fn parse_decls(
     parse_decls_from(alloc, depth, name, rest)
 }
 
-/// A declaration, behind its type.
+/// A declaration, after its type.
 #[tactic(auto, unfolding(ss_grammar_statements::specs::Parser::declaration))]
 pub fn parse_declaration(
     alloc: Global,

@@ -7,7 +7,7 @@ ghost use Rattle.ss_grammar.specs.Stops.{Gives};
 ghost use Rattle.ss_grammar_expressions.specs.Heads.{pieces};
 ghost use Rattle.ss_grammar_expressions.specs.Parser.{below};
 ghost use Rattle.ss_grammar_statements.specs.Heads.{ExposeFirst};
-ghost use Rattle.ss_grammar_statements.specs.Parser.{expose_body, expose_end, stmt_behind, nested_below};
+ghost use Rattle.ss_grammar_statements.specs.Parser.{expose_body, expose_end, stmt_after, nested_below};
 
 use crate::governed::parse_inner_block;
 use crate::headings::parse_level;
@@ -39,7 +39,7 @@ fn parse_expose_body(
     Ok((build::expose(alloc, place, object, level, body)?, rest))
 }
 
-// What is behind the `(` of an `expose`.
+// What is after the `(` of an `expose`.
 #[cycle(stmt)]
 #[tactic(auto, unfolding(ss_grammar_statements::specs::Parser::expose_end))]
 fn parse_expose_end(
@@ -57,16 +57,16 @@ fn parse_expose_end(
     parse_expose_body(alloc, depth, place, object, level, rest)
 }
 
-/// What is behind `expose`.
+/// What is after `expose`.
 #[cycle(stmt)]
-#[tactic(auto, unfolding(ss_grammar_statements::specs::Parser::stmt_behind))]
+#[tactic(auto, unfolding(ss_grammar_statements::specs::Parser::stmt_after))]
 pub fn parse_expose(
     alloc: Global,
     depth: u32,
     place: Place,
     tokens: &[Token],
 ) -> Result<(Box<Stmt>, &[Token]), Stop>
-    ensures gives { Gives (λ x. (stmt_tree x.0.value, pieces x.1.now)) result (stmt_behind depth (below depth) (nested_below depth) (ExposeFirst place) (pieces tokens.now)) }
+    ensures gives { Gives (λ x. (stmt_tree x.0.value, pieces x.1.now)) result (stmt_after depth (below depth) (nested_below depth) (ExposeFirst place) (pieces tokens.now)) }
     ensures fewer { IfOk result (λ x. length x.1.now ≤ length tokens.now) }
 {
     match tokens {

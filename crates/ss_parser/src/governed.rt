@@ -8,7 +8,7 @@ ghost use Rattle.ss_grammar_expressions.specs.Heads.{pieces};
 ghost use Rattle.ss_grammar_expressions.specs.Parser.{below};
 ghost use Rattle.ss_grammar_statements.specs.Heads.{IfFirst};
 ghost use Rattle.ss_grammar_statements.specs.Grammar.{TheStatements, TheGoverned};
-ghost use Rattle.ss_grammar_statements.specs.Parser.{block_behind, inner_block, in_block, governed, other_side, else_end, if_end, stmt_behind, nested_below};
+ghost use Rattle.ss_grammar_statements.specs.Parser.{block_after, inner_block, in_block, governed, other_side, else_end, if_end, stmt_after, nested_below};
 ghost use Rattle.ss_parser_statement_trees.specs.View.{listed_of};
 
 use crate::statements::{parse_other, parse_statements};
@@ -51,17 +51,17 @@ fn inner_governed(
     parse_other(alloc, depth - 1, tokens)
 }
 
-/// A block, behind its `{`.
+/// A block, after its `{`.
 #[cycle(stmt)]
-#[tactic(auto, unfolding(ss_grammar_statements::specs::Parser::block_behind))]
-pub fn parse_block_behind(
+#[tactic(auto, unfolding(ss_grammar_statements::specs::Parser::block_after))]
+pub fn parse_block_after(
     alloc: Global,
     depth: u32,
     place: Place,
     tokens: &[Token],
 ) -> Result<(Block, &[Token]), Stop>
     requires { 0 < depth }
-    ensures gives { Gives (λ x. (block_tree x.0, pieces x.1.now)) result (block_behind depth (below depth) (nested_below depth) place (pieces tokens.now)) }
+    ensures gives { Gives (λ x. (block_tree x.0, pieces x.1.now)) result (block_after depth (below depth) (nested_below depth) place (pieces tokens.now)) }
     ensures fewer { IfOk result (λ x. length x.1.now ≤ length tokens.now) }
 {
     let (list, rest) = inner_statements(alloc, depth, tokens)?;
@@ -81,7 +81,7 @@ pub fn parse_inner_block(
     ensures fewer { IfOk result (λ x. length x.1.now ≤ length tokens.now) }
 {
     let (place, rest) = expect(tokens, Symbol::OpenBrace)?;
-    parse_block_behind(alloc, depth, place, rest)
+    parse_block_after(alloc, depth, place, rest)
 }
 
 // A block as a statement.
@@ -124,7 +124,7 @@ pub fn parse_governed(
     }
 }
 
-// The statement behind `else`.
+// The statement after `else`.
 #[cycle(stmt)]
 #[tactic(auto, unfolding(ss_grammar_statements::specs::Parser::other_side))]
 fn parse_other_side(
@@ -170,7 +170,7 @@ fn parse_else_end(
     }
 }
 
-// What is behind the `(` of an `if`.
+// What is after the `(` of an `if`.
 #[cycle(stmt)]
 #[tactic(auto, unfolding(ss_grammar_statements::specs::Parser::if_end))]
 fn parse_if_end(
@@ -188,16 +188,16 @@ fn parse_if_end(
     parse_else_end(alloc, depth, place, test, side, rest)
 }
 
-/// What is behind `if`.
+/// What is after `if`.
 #[cycle(stmt)]
-#[tactic(auto, unfolding(ss_grammar_statements::specs::Parser::stmt_behind))]
+#[tactic(auto, unfolding(ss_grammar_statements::specs::Parser::stmt_after))]
 pub fn parse_if(
     alloc: Global,
     depth: u32,
     place: Place,
     tokens: &[Token],
 ) -> Result<(Box<Stmt>, &[Token]), Stop>
-    ensures gives { Gives (λ x. (stmt_tree x.0.value, pieces x.1.now)) result (stmt_behind depth (below depth) (nested_below depth) (IfFirst place) (pieces tokens.now)) }
+    ensures gives { Gives (λ x. (stmt_tree x.0.value, pieces x.1.now)) result (stmt_after depth (below depth) (nested_below depth) (IfFirst place) (pieces tokens.now)) }
     ensures fewer { IfOk result (λ x. length x.1.now ≤ length tokens.now) }
 {
     match tokens {

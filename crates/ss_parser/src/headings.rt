@@ -146,7 +146,7 @@ fn parse_optional_step(
     }
 }
 
-/// What is behind the `(` of a `for`.
+/// What is after the `(` of a `for`.
 #[tactic(auto, unfolding(ss_grammar_statements::specs::Parser::heading))]
 pub fn parse_heading(
     alloc: Global,

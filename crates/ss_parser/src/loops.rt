@@ -8,7 +8,7 @@ ghost use Rattle.ss_grammar_expressions.specs.Heads.{pieces};
 ghost use Rattle.ss_grammar_expressions.specs.Parser.{below};
 ghost use Rattle.ss_grammar_statements.specs.Heads.{WhileFirst, ForFirst};
 ghost use Rattle.ss_grammar_statements.specs.Grammar.{TheHeading};
-ghost use Rattle.ss_grammar_statements.specs.Parser.{while_body, while_end, for_body, for_end, stmt_behind, heading, nested_below};
+ghost use Rattle.ss_grammar_statements.specs.Parser.{while_body, while_end, for_body, for_end, stmt_after, heading, nested_below};
 ghost use Rattle.ss_parser_statement_trees.specs.View.{heading_of};
 ghost use Rattle.ss_parser.specs.Loops.{guarded};
 
@@ -63,7 +63,7 @@ fn parse_while_body(
     Ok((build::while_loop(alloc, place, test, guarded)?, rest))
 }
 
-// What is behind the `(` of a `while`.
+// What is after the `(` of a `while`.
 #[cycle(stmt)]
 #[tactic(auto, unfolding(ss_grammar_statements::specs::Parser::while_end))]
 fn parse_while_end(
@@ -80,16 +80,16 @@ fn parse_while_end(
     parse_while_body(alloc, depth, place, test, rest)
 }
 
-/// What is behind `while`.
+/// What is after `while`.
 #[cycle(stmt)]
-#[tactic(auto, unfolding(ss_grammar_statements::specs::Parser::stmt_behind))]
+#[tactic(auto, unfolding(ss_grammar_statements::specs::Parser::stmt_after))]
 pub fn parse_while(
     alloc: Global,
     depth: u32,
     place: Place,
     tokens: &[Token],
 ) -> Result<(Box<Stmt>, &[Token]), Stop>
-    ensures gives { Gives (λ x. (stmt_tree x.0.value, pieces x.1.now)) result (stmt_behind depth (below depth) (nested_below depth) (WhileFirst place) (pieces tokens.now)) }
+    ensures gives { Gives (λ x. (stmt_tree x.0.value, pieces x.1.now)) result (stmt_after depth (below depth) (nested_below depth) (WhileFirst place) (pieces tokens.now)) }
     ensures fewer { IfOk result (λ x. length x.1.now ≤ length tokens.now) }
 {
     match tokens {
@@ -127,7 +127,7 @@ fn parse_for_body(
     Ok((build::for_loop(alloc, place, heading, guarded)?, rest))
 }
 
-// What is behind the `(` of a `for`.
+// What is after the `(` of a `for`.
 #[cycle(stmt)]
 #[tactic(auto, unfolding(ss_grammar_statements::specs::Parser::for_end))]
 fn parse_for_end(
@@ -144,16 +144,16 @@ fn parse_for_end(
     parse_for_body(alloc, depth, place, heading, rest)
 }
 
-/// What is behind `for`.
+/// What is after `for`.
 #[cycle(stmt)]
-#[tactic(auto, unfolding(ss_grammar_statements::specs::Parser::stmt_behind))]
+#[tactic(auto, unfolding(ss_grammar_statements::specs::Parser::stmt_after))]
 pub fn parse_for(
     alloc: Global,
     depth: u32,
     place: Place,
     tokens: &[Token],
 ) -> Result<(Box<Stmt>, &[Token]), Stop>
-    ensures gives { Gives (λ x. (stmt_tree x.0.value, pieces x.1.now)) result (stmt_behind depth (below depth) (nested_below depth) (ForFirst place) (pieces tokens.now)) }
+    ensures gives { Gives (λ x. (stmt_tree x.0.value, pieces x.1.now)) result (stmt_after depth (below depth) (nested_below depth) (ForFirst place) (pieces tokens.now)) }
     ensures fewer { IfOk result (λ x. length x.1.now ≤ length tokens.now) }
 {
     match tokens {

@@ -7,7 +7,7 @@ ghost use Rattle.ss_grammar.specs.Stops.{Gives};
 ghost use Rattle.ss_grammar_expressions.specs.Heads.{pieces, AToken};
 ghost use Rattle.ss_grammar_expressions.specs.Parser.{below, opened};
 ghost use Rattle.ss_grammar_statements.specs.Heads.{prim_opens, prim_place};
-ghost use Rattle.ss_grammar_statements.specs.Parser.{prim_behind, prim, post_behind, post};
+ghost use Rattle.ss_grammar_statements.specs.Parser.{prim_after, prim, post_after, post};
 ghost use Rattle.ss_parser_statement_trees.specs.View.{prim_start_of};
 
 use ss_ast::{Expr, Token};
@@ -20,8 +20,8 @@ use ss_parser_expressions::quantifiers::parse_quantified;
 use ss_parser_statement_trees::heads::{PrimStart, prim_start};
 use std::alloc::Global;
 
-// What a path begins with, behind its first token, which is `first`.
-#[tactic(auto, unfolding(ss_grammar_statements::specs::Parser::prim_behind))]
+// What a path begins with, after its first token, which is `first`.
+#[tactic(auto, unfolding(ss_grammar_statements::specs::Parser::prim_after))]
 fn parse_prim_from<'a>(
     alloc: Global,
     depth: u32,
@@ -29,7 +29,7 @@ fn parse_prim_from<'a>(
     first: &Token,
     tokens: &'a [Token],
 ) -> Result<(Box<Expr>, &'a [Token]), Stop>
-    ensures gives { Gives (λ x. (expr_tree x.0.value, pieces x.1.now)) result (opened (prim_opens (prim_start_of start)) depth (prim_behind depth (below depth) (prim_start_of start)) (AToken (tok first.now)) (pieces tokens.now)) }
+    ensures gives { Gives (λ x. (expr_tree x.0.value, pieces x.1.now)) result (opened (prim_opens (prim_start_of start)) depth (prim_after depth (below depth) (prim_start_of start)) (AToken (tok first.now)) (pieces tokens.now)) }
     ensures fewer { IfOk result (λ x. length x.1.now ≤ length tokens.now) }
 {
     match start {
@@ -81,7 +81,7 @@ fn place_of(start: &PrimStart) -> Place
     }
 }
 
-/// A path, behind its first token, which is `first`.
+/// A path, after its first token, which is `first`.
 #[tactic(auto, using(crate::proofs::Opened::post_opened))]
 pub fn parse_post_from<'a>(
     alloc: Global,
@@ -90,7 +90,7 @@ pub fn parse_post_from<'a>(
     first: &Token,
     tokens: &'a [Token],
 ) -> Result<(Box<Expr>, &'a [Token]), Stop>
-    ensures gives { Gives (λ x. (expr_tree x.0.value, pieces x.1.now)) result (opened (prim_opens (prim_start_of start)) depth (post_behind depth (below depth) (prim_start_of start)) (AToken (tok first.now)) (pieces tokens.now)) }
+    ensures gives { Gives (λ x. (expr_tree x.0.value, pieces x.1.now)) result (opened (prim_opens (prim_start_of start)) depth (post_after depth (below depth) (prim_start_of start)) (AToken (tok first.now)) (pieces tokens.now)) }
     ensures fewer { IfOk result (λ x. length x.1.now ≤ length tokens.now) }
 {
     let place = place_of(&start);

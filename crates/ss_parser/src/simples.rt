@@ -9,7 +9,7 @@ ghost use Rattle.ss_grammar_expressions.specs.Heads.{pieces, AToken};
 ghost use Rattle.ss_grammar_expressions.specs.Grammar.{named};
 ghost use Rattle.ss_grammar_expressions.specs.Parser.{below, opened};
 ghost use Rattle.ss_grammar_statements.specs.Heads.{prim_opens, start_opens, NextName, PrimFirst};
-ghost use Rattle.ss_grammar_statements.specs.Parser.{simple_end, simple, simple_then, simple_from, array_declared, element_first, element_or_declared, next_behind, name_behind, start_behind, for_init};
+ghost use Rattle.ss_grammar_statements.specs.Parser.{simple_end, simple, simple_then, simple_from, array_declared, element_first, element_or_declared, next_behind, name_after, start_after, for_init};
 ghost use Rattle.ss_parser_statement_trees.specs.View.{prim_start_of, init_start_of};
 
 use crate::declarations::{parse_declaration, parse_decls_from};
@@ -29,8 +29,8 @@ use ss_parser_statement_trees::heads::{
 };
 use std::alloc::Global;
 
-// What is behind the path of a simple statement.
-#[tactic(auto, unfolding(ss_grammar_statements::specs::Parser::simple_end, ss_grammar_statements::specs::Parser::simple_behind))]
+// What is after the path of a simple statement.
+#[tactic(auto, unfolding(ss_grammar_statements::specs::Parser::simple_end, ss_grammar_statements::specs::Parser::simple_after))]
 fn parse_simple_end(
     alloc: Global,
     depth: u32,
@@ -81,7 +81,7 @@ fn parse_simple_then(
     Ok((ForInit::Simple(simple), rest))
 }
 
-// A simple statement, behind the beginning of its path.
+// A simple statement, after the beginning of its path.
 #[tactic(auto, unfolding(ss_grammar_statements::specs::Parser::simple_from))]
 fn parse_simple_from(
     alloc: Global,
@@ -97,7 +97,7 @@ fn parse_simple_from(
     parse_simple_then(alloc, depth, path, rest)
 }
 
-// A declaration, behind a name and `[`.
+// A declaration, after a name and `[`.
 #[tactic(auto, unfolding(ss_grammar_statements::specs::Parser::array_declared))]
 fn parse_array_declared(
     alloc: Global,
@@ -113,7 +113,7 @@ fn parse_array_declared(
     parse_declaration(alloc, depth, build::array_class(name, non_null), rest)
 }
 
-// A simple statement, behind a name and `[`.
+// A simple statement, after a name and `[`.
 #[tactic(auto, unfolding(ss_grammar_statements::specs::Parser::element_first))]
 fn parse_element_first(
     alloc: Global,
@@ -131,7 +131,7 @@ fn parse_element_first(
     parse_simple_from(alloc, depth, place, path, rest)
 }
 
-// A declaration or a simple statement, behind a name and `[`.
+// A declaration or a simple statement, after a name and `[`.
 #[tactic(auto, unfolding(ss_grammar_statements::specs::Parser::element_or_declared))]
 fn parse_element_or_declared(
     alloc: Global,
@@ -174,15 +174,15 @@ fn parse_two_names(
     ))
 }
 
-// A declaration or a simple statement, behind the name that it begins with.
-#[tactic(auto, unfolding(ss_grammar_statements::specs::Parser::name_behind, ss_grammar_statements::specs::Parser::next_behind))]
-fn parse_name_behind(
+// A declaration or a simple statement, after the name that it begins with.
+#[tactic(auto, unfolding(ss_grammar_statements::specs::Parser::name_after, ss_grammar_statements::specs::Parser::next_behind))]
+fn parse_name_after(
     alloc: Global,
     depth: u32,
     name: Name,
     tokens: &[Token],
 ) -> Result<(ForInit, &[Token]), Stop>
-    ensures gives { Gives (λ x. (for_init_tree x.0, pieces x.1.now)) result (name_behind depth (below depth) (name_tree name) (pieces tokens.now)) }
+    ensures gives { Gives (λ x. (for_init_tree x.0, pieces x.1.now)) result (name_after depth (below depth) (name_tree name) (pieces tokens.now)) }
     ensures fewer { IfOk result (λ x. length x.1.now ≤ length tokens.now) }
 {
     match tokens {
@@ -209,7 +209,7 @@ fn parse_name_behind(
     }
 }
 
-// A simple statement, behind the name that it begins with.
+// A simple statement, after the name that it begins with.
 fn parse_named_path(
     alloc: Global,
     depth: u32,
@@ -233,7 +233,7 @@ fn parse_path_start<'a>(
     first: &Token,
     tokens: &'a [Token],
 ) -> Result<(ForInit, &'a [Token]), Stop>
-    ensures gives { Gives (λ x. (for_init_tree x.0, pieces x.1.now)) result (opened (prim_opens (prim_start_of start)) depth (start_behind depth (below depth) (PrimFirst (prim_start_of start))) (AToken (tok first.now)) (pieces tokens.now)) }
+    ensures gives { Gives (λ x. (for_init_tree x.0, pieces x.1.now)) result (opened (prim_opens (prim_start_of start)) depth (start_after depth (below depth) (PrimFirst (prim_start_of start))) (AToken (tok first.now)) (pieces tokens.now)) }
     ensures fewer { IfOk result (λ x. length x.1.now ≤ length tokens.now) }
 {
     let (path, rest) = parse_post_from(alloc, depth, start, first, tokens)?;
@@ -241,7 +241,7 @@ fn parse_path_start<'a>(
 }
 
 /// A declaration or a simple statement, from what it begins with on; `first` is its first token.
-#[tactic(auto, unfolding(ss_grammar_statements::specs::Parser::start_behind))]
+#[tactic(auto, unfolding(ss_grammar_statements::specs::Parser::start_after))]
 pub fn parse_start<'a>(
     alloc: Global,
     depth: u32,
@@ -249,7 +249,7 @@ pub fn parse_start<'a>(
     first: &Token,
     tokens: &'a [Token],
 ) -> Result<(ForInit, &'a [Token]), Stop>
-    ensures gives { Gives (λ x. (for_init_tree x.0, pieces x.1.now)) result (opened (start_opens (init_start_of start)) depth (start_behind depth (below depth) (init_start_of start)) (AToken (tok first.now)) (pieces tokens.now)) }
+    ensures gives { Gives (λ x. (for_init_tree x.0, pieces x.1.now)) result (opened (start_opens (init_start_of start)) depth (start_after depth (below depth) (init_start_of start)) (AToken (tok first.now)) (pieces tokens.now)) }
     ensures fewer { IfOk result (λ x. length x.1.now ≤ length tokens.now) }
 {
     match start {
@@ -257,7 +257,7 @@ pub fn parse_start<'a>(
             let (ty, rest) = parse_type_end(depth, ty, tokens)?;
             parse_declaration(alloc, depth, ty, rest)
         }
-        InitStart::Name(name) => parse_name_behind(alloc, depth, name, tokens),
+        InitStart::Name(name) => parse_name_after(alloc, depth, name, tokens),
         InitStart::Prim(prim) => parse_path_start(alloc, depth, prim, first, tokens),
     }
 }

@@ -9,11 +9,11 @@ ghost use Rattle.ss_grammar_expressions.specs.First.{tokened};
 ghost use Rattle.ss_grammar_expressions.specs.Heads.{pieces, AToken};
 ghost use Rattle.ss_grammar_expressions.specs.Parser.{below};
 ghost use Rattle.ss_grammar_statements.specs.Heads.{stmt_head, StartFirst, ReturnFirst, AssertFirst, AssumeFirst};
-ghost use Rattle.ss_grammar_statements.specs.Parser.{one_stmt, stmt_behind, other, joins_stmt, statements, nested_below, block};
+ghost use Rattle.ss_grammar_statements.specs.Parser.{one_stmt, stmt_after, other, joins_stmt, statements, nested_below, block};
 ghost use Rattle.ss_parser_statement_trees.specs.View.{init_start_of, word_first, stmt_start_of, listed_of};
 
 use crate::exposes::parse_expose;
-use crate::governed::{parse_block_behind, parse_if};
+use crate::governed::{parse_block_after, parse_if};
 use crate::headings::{parse_ended, parse_optional_value};
 use crate::loops::{parse_for, parse_while};
 use crate::simples::parse_start;
@@ -26,54 +26,54 @@ use ss_parser_statement_trees::build::StmtList;
 use ss_parser_statement_trees::heads::{InitStart, StmtStart, StmtWord, next_start, stmt_start};
 use std::alloc::Global;
 
-// What is behind `return`.
-#[tactic(auto, unfolding(ss_grammar_statements::specs::Parser::stmt_behind))]
+// What is after `return`.
+#[tactic(auto, unfolding(ss_grammar_statements::specs::Parser::stmt_after))]
 fn parse_return(
     alloc: Global,
     depth: u32,
     place: Place,
     tokens: &[Token],
 ) -> Result<(Box<Stmt>, &[Token]), Stop>
-    ensures gives { Gives (λ x. (stmt_tree x.0.value, pieces x.1.now)) result (stmt_behind depth (below depth) (nested_below depth) (ReturnFirst place) (pieces tokens.now)) }
+    ensures gives { Gives (λ x. (stmt_tree x.0.value, pieces x.1.now)) result (stmt_after depth (below depth) (nested_below depth) (ReturnFirst place) (pieces tokens.now)) }
     ensures fewer { IfOk result (λ x. length x.1.now ≤ length tokens.now) }
 {
     let (value, rest) = parse_optional_value(alloc, depth, tokens)?;
     Ok((build::returns(alloc, place, value)?, rest))
 }
 
-// What is behind `assert`.
-#[tactic(auto, unfolding(ss_grammar_statements::specs::Parser::stmt_behind))]
+// What is after `assert`.
+#[tactic(auto, unfolding(ss_grammar_statements::specs::Parser::stmt_after))]
 fn parse_assert(
     alloc: Global,
     depth: u32,
     place: Place,
     tokens: &[Token],
 ) -> Result<(Box<Stmt>, &[Token]), Stop>
-    ensures gives { Gives (λ x. (stmt_tree x.0.value, pieces x.1.now)) result (stmt_behind depth (below depth) (nested_below depth) (AssertFirst place) (pieces tokens.now)) }
+    ensures gives { Gives (λ x. (stmt_tree x.0.value, pieces x.1.now)) result (stmt_after depth (below depth) (nested_below depth) (AssertFirst place) (pieces tokens.now)) }
     ensures fewer { IfOk result (λ x. length x.1.now ≤ length tokens.now) }
 {
     let (condition, rest) = parse_ended(alloc, depth, tokens)?;
     Ok((build::asserts(alloc, place, condition)?, rest))
 }
 
-// What is behind `assume`.
-#[tactic(auto, unfolding(ss_grammar_statements::specs::Parser::stmt_behind))]
+// What is after `assume`.
+#[tactic(auto, unfolding(ss_grammar_statements::specs::Parser::stmt_after))]
 fn parse_assume(
     alloc: Global,
     depth: u32,
     place: Place,
     tokens: &[Token],
 ) -> Result<(Box<Stmt>, &[Token]), Stop>
-    ensures gives { Gives (λ x. (stmt_tree x.0.value, pieces x.1.now)) result (stmt_behind depth (below depth) (nested_below depth) (AssumeFirst place) (pieces tokens.now)) }
+    ensures gives { Gives (λ x. (stmt_tree x.0.value, pieces x.1.now)) result (stmt_after depth (below depth) (nested_below depth) (AssumeFirst place) (pieces tokens.now)) }
     ensures fewer { IfOk result (λ x. length x.1.now ≤ length tokens.now) }
 {
     let (condition, rest) = parse_ended(alloc, depth, tokens)?;
     Ok((build::assumes(alloc, place, condition)?, rest))
 }
 
-// A statement, behind the word that it begins with, which is `first`.
+// A statement, after the word that it begins with, which is `first`.
 #[cycle(stmt)]
-#[tactic(auto, unfolding(ss_grammar_statements::specs::Parser::stmt_behind))]
+#[tactic(auto, unfolding(ss_grammar_statements::specs::Parser::stmt_after))]
 fn parse_word<'a>(
     alloc: Global,
     depth: u32,
@@ -116,7 +116,7 @@ fn parse_start_end<'a>(
 
 /// A statement that is no block.
 #[cycle(stmt)]
-#[tactic(auto, unfolding(ss_grammar_statements::specs::Parser::other, ss_grammar_statements::specs::Parser::stmt_behind), using(crate::proofs::Opened::word_alone))]
+#[tactic(auto, unfolding(ss_grammar_statements::specs::Parser::other, ss_grammar_statements::specs::Parser::stmt_after), using(crate::proofs::Opened::word_alone))]
 pub fn parse_other(
     alloc: Global,
     depth: u32,
@@ -141,7 +141,7 @@ pub fn parse_other(
 
 // A statement, from what it begins with on; `first` is its first token.
 #[cycle(stmt)]
-#[tactic(auto, unfolding(ss_grammar_statements::specs::Parser::stmt_behind))]
+#[tactic(auto, unfolding(ss_grammar_statements::specs::Parser::stmt_after))]
 fn parse_stmt<'a>(
     alloc: Global,
     depth: u32,
@@ -157,7 +157,7 @@ fn parse_stmt<'a>(
             if depth == 0 {
                 return Err(Stop::Fault(Fault::TooDeep, tokens.len() + 1));
             }
-            let (block, rest) = parse_block_behind(alloc, depth, place, tokens)?;
+            let (block, rest) = parse_block_after(alloc, depth, place, tokens)?;
             Ok((build::boxed(alloc, build::in_block(block))?, rest))
         }
         StmtStart::Init(init) => parse_start_end(alloc, depth, init, first, tokens),
@@ -198,7 +198,7 @@ pub fn parse_statements(
     Ok((StmtList { statements, end }, rest))
 }
 
-/// A block, nested at most so deep, and the tokens behind it.
+/// A block, nested at most so deep, and the tokens after it.
 #[tactic(auto, unfolding(ss_grammar_statements::specs::Parser::block))]
 pub fn parse_whole_block(
     alloc: Global,
@@ -219,7 +219,7 @@ pub fn parse_whole_block(
             if depth == 0 {
                 return Err(Stop::Fault(Fault::TooDeep, tokens.len()));
             }
-            parse_block_behind(alloc, depth, *place, rest)
+            parse_block_after(alloc, depth, *place, rest)
         }
         _ => Err(Stop::Fault(Fault::Expected, tokens.len())),
     }

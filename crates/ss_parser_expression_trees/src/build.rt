@@ -3,7 +3,7 @@
 ghost use Rattle.std.specs.Prelude.{◌≡◌, IfOk, map, string_bytes, Option, Some, None, option_map};
 ghost use Rattle.ss_ast.specs.Expressions.{ExprTree, expr_tree, type_tree, name_tree, type_name_tree, arguments, grouped, BinaryOf, IsOf, AsOf, MemberOf, ElementOf, CallOf, NegateOf, NotOf, CastOf, ParenOf, OldOf, NewOf, NewArrayOf, QuantifiedOf, ImpliesOf, IffOf, NumberOf, TextOf, NameOf, TruthOf, NullOf, ThisOf, BaseOf, ResultOf};
 ghost use Rattle.ss_grammar_expressions.specs.Grammar.{AType, type_of, head_of};
-ghost use Rattle.ss_ast.specs.Parts.{link_behind as link_tree, postfix_behind as postfix_tree};
+ghost use Rattle.ss_ast.specs.Parts.{link_after as link_tree, postfix_after as postfix_tree};
 ghost use Rattle.ss_parser_expression_trees.specs.View.{inside_of};
 
 use ss_ast::{Expr, Link, Name, Operator, Postfix, Quantifier, TypeName, TypeRef};
@@ -206,7 +206,7 @@ pub fn chain(
     boxed(alloc, Expr::Chain(place, first, links))
 }
 
-/// A path, which is its beginning where nothing stands behind it.
+/// A path, which is its beginning where nothing stands after it.
 pub fn path(
     alloc: Global,
     place: Place,

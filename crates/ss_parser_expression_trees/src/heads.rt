@@ -74,7 +74,7 @@ pub fn same_symbol(one: Symbol, other: Symbol) -> bool
     number_of(one) == number_of(other)
 }
 
-/// The place of this symbol, and the tokens behind it.
+/// The place of this symbol, and the tokens after it.
 pub fn expect(tokens: &[Token], symbol: Symbol) -> Result<(Place, &[Token]), Stop>
     ensures gives { Gives (λ x. (x.0, pieces x.1.now)) result (take (the symbol) give (pieces tokens.now)) }
     ensures fewer { IfOk result (λ x. length x.1.now < length tokens.now) }
@@ -91,7 +91,7 @@ pub fn expect(tokens: &[Token], symbol: Symbol) -> Result<(Place, &[Token]), Sto
     }
 }
 
-/// The expression, and the tokens behind this symbol.
+/// The expression, and the tokens after this symbol.
 pub fn then_symbol(
     expr: Box<Expr>,
     symbol: Symbol,
@@ -104,7 +104,7 @@ pub fn then_symbol(
     Ok((expr, rest))
 }
 
-/// The place of this symbol, and the tokens behind it, where it is the next.
+/// The place of this symbol, and the tokens after it, where it is the next.
 pub fn next_symbol(tokens: &[Token], symbol: Symbol) -> Option<(Place, &[Token])>
     ensures sees { seen (the symbol) (pieces tokens.now) ≡ option_map (λ x. (x.0, pieces x.1.now)) result }
     ensures fewer { IfSome result (λ x. length x.1.now < length tokens.now) }
@@ -121,7 +121,7 @@ pub fn next_symbol(tokens: &[Token], symbol: Symbol) -> Option<(Place, &[Token])
     }
 }
 
-/// The place of this word, and the tokens behind it.
+/// The place of this word, and the tokens after it.
 pub fn expect_word(tokens: &[Token], word: Word) -> Result<(Place, &[Token]), Stop>
     ensures gives { Gives (λ x. (x.0, pieces x.1.now)) result (take (the_word word) give (pieces tokens.now)) }
     ensures fewer { IfOk result (λ x. length x.1.now < length tokens.now) }
@@ -138,7 +138,7 @@ pub fn expect_word(tokens: &[Token], word: Word) -> Result<(Place, &[Token]), St
     }
 }
 
-/// The place of this word, and the tokens behind it, where it is the next.
+/// The place of this word, and the tokens after it, where it is the next.
 pub fn next_word(tokens: &[Token], word: Word) -> Option<(Place, &[Token])>
     ensures sees { seen (the_word word) (pieces tokens.now) ≡ option_map (λ x. (x.0, pieces x.1.now)) result }
     ensures fewer { IfSome result (λ x. length x.1.now < length tokens.now) }
@@ -155,7 +155,7 @@ pub fn next_word(tokens: &[Token], word: Word) -> Option<(Place, &[Token])>
     }
 }
 
-/// A name, and the tokens behind it.
+/// A name, and the tokens after it.
 pub fn expect_name(tokens: &[Token]) -> Result<(Name, &[Token]), Stop>
     ensures gives { Gives (λ x. (name_tree x.0, pieces x.1.now)) result (name_at (pieces tokens.now)) }
     ensures fewer { IfOk result (λ x. length x.1.now < length tokens.now) }
@@ -199,7 +199,7 @@ pub fn type_word(place: Place, word: Word) -> Option<Start>
     }
 }
 
-/// What a type begins with, and the tokens behind it.
+/// What a type begins with, and the tokens after it.
 pub fn expect_type(tokens: &[Token]) -> Result<(Start, &[Token]), Stop>
     ensures gives { Gives (λ x. (start_of x.0, pieces x.1.now)) result (take type_head give (pieces tokens.now)) }
     ensures fewer { IfOk result (λ x. length x.1.now < length tokens.now) }
@@ -286,7 +286,7 @@ fn ranked(kind: &TokenKind) -> Option<RankedJoint>
     }
 }
 
-/// The operator of this rank, where it is the next, and the tokens behind it.
+/// The operator of this rank, where it is the next, and the tokens after it.
 pub fn next_joint(tokens: &[Token], rank: u32) -> Option<(Joint, &[Token])>
     ensures sees { seen (link_head rank) (pieces tokens.now) ≡ option_map (λ x. (joint_of x.0, pieces x.1.now)) result }
     ensures fewer { IfSome result (λ x. length x.1.now < length tokens.now) }

@@ -12,7 +12,7 @@ use Rattle.ss_grammar.specs.Stops.{Fails, Gives}
 use Rattle.ss_grammar.proofs.Turns.{Turns, turns_err}
 use Rattle.ss_grammar_expressions.specs.Heads.{Piece, pieces, link_head, postfix_head}
 use Rattle.ss_grammar_expressions.specs.First.{tokened}
-use Rattle.ss_grammar_expressions.specs.Parser.{Inner, chain, operand, link_behind, joins, postfix, postfixes}
+use Rattle.ss_grammar_expressions.specs.Parser.{Inner, chain, operand, link_after, joins, postfix, postfixes}
 
 pub fails_on : {T A B R : Type 0} (f : T → Option B) (k : B → List T → Result (R × List T) (Fault × List T)) (join : A → B → R → A) (a : A) (ts : List T) (b : B) (rest : List T) (e : Stop) (total : Result (A × List T) (Fault × List T)) → seen f ts ≡ Some (b, rest) → Fails e (k b rest) → Turns f k join a ts total → Fails e total
 fails_on f k join a ts b rest stop.Memory total s g h = tt
@@ -38,17 +38,17 @@ pub pieces_less : (a b : List Token) → length a < length b → length (pieces 
 pieces_less a b lt = omega (arith, pieces_length a, pieces_length b)
 
 module _ (d : ℕ) (w : Inner) where
-  operand_link : (k : ℕ) (p : Place) (a : ExprTree) (ts : List Piece) → chain d w (suc k) p a ts ≡ (chain d w k p a ts >>= λ x. times (link_head (suc k)) (link_behind d w (operand d w k)) (joins d w p) (length x.1) x.0 x.1)
+  operand_link : (k : ℕ) (p : Place) (a : ExprTree) (ts : List Piece) → chain d w (suc k) p a ts ≡ (chain d w k p a ts >>= λ x. times (link_head (suc k)) (link_after d w (operand d w k)) (joins d w p) (length x.1) x.0 x.1)
   unfolding chain operand
   operand_link k p a ts = refl
 
-  pub chain_is : (k : ℕ) (p : Place) (a : ExprTree) (ts : List Piece) → 0 < k → chain d w k p a ts ≡ (chain d w (k - 1) p a ts >>= λ x. times (link_head (k - 1 + 1)) (link_behind d w (operand d w (k - 1))) (joins d w p) (length x.1) x.0 x.1)
+  pub chain_is : (k : ℕ) (p : Place) (a : ExprTree) (ts : List Piece) → 0 < k → chain d w k p a ts ≡ (chain d w (k - 1) p a ts >>= λ x. times (link_head (k - 1 + 1)) (link_after d w (operand d w (k - 1))) (joins d w p) (length x.1) x.0 x.1)
   chain_is zero p a ts lt = absurd (omega arith)
   chain_is (suc k) p a ts lt =
       let e : k ≡ suc k - 1 = omega arith in
       let f : suc k ≡ suc k - 1 + 1 = omega arith in
-      subst (λ j. chain d w (suc k) p a ts ≡ (chain d w (suc k - 1) p a ts >>= λ x. times (link_head j) (link_behind d w (operand d w (suc k - 1))) (joins d w p) (length x.1) x.0 x.1)) f
-      (subst (λ j. chain d w (suc k) p a ts ≡ (chain d w j p a ts >>= λ x. times (link_head (suc k)) (link_behind d w (operand d w j)) (joins d w p) (length x.1) x.0 x.1)) e (operand_link k p a ts))
+      subst (λ j. chain d w (suc k) p a ts ≡ (chain d w (suc k - 1) p a ts >>= λ x. times (link_head j) (link_after d w (operand d w (suc k - 1))) (joins d w p) (length x.1) x.0 x.1)) f
+      (subst (λ j. chain d w (suc k) p a ts ≡ (chain d w j p a ts >>= λ x. times (link_head (suc k)) (link_after d w (operand d w j)) (joins d w p) (length x.1) x.0 x.1)) e (operand_link k p a ts))
 
 pub postfixes_is : (d : ℕ) (w : Inner) (p : Place) (a : ExprTree) (ts : List Piece) → postfixes d w p a ts ≡ times (tokened postfix_head) (postfix d w) (joins d w p) (length ts) a ts
 unfolding postfixes

@@ -71,7 +71,7 @@ module _ {X A : Type 0} (L : ℕ → List Piece → A → Type 0) (view : X → 
       let s : pieces rest ≡ pieces (drop (length tokens - length rest) tokens) = behind_is tokens at a.front (pieces rest) (omega (arith, le)) a.parts ∙ ap (λ k. pieces (drop (length tokens - k) tokens)) (pieces_length rest) in
       subst (λ y. Accepts L 64 ts (view e) y) s a
 
-  -- the number of the token behind the part is that of a token
+  -- the number of the token after the part is that of a token
   pub stays : (e : X) (rest : List Token) → read ts ≡ Ok (view e, pieces rest) → ((d : ℕ) (us : List Piece) (v : A) → L d us v → TakesNoEnd us) → EndsText tokens → length tokens - length rest < length tokens
   stays e rest q kept ends =
       let a : Accepts L 64 ts (view e) (pieces rest) = subst (λ r. Finds L 64 ts r) q finds in

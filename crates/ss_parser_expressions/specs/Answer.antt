@@ -29,7 +29,7 @@ abbrev pub Refusal : {A : Type 0} → (ℕ → List Piece → A → Type 0) → 
 Refusal L n ts rest = ((n ≡ rule_number rule.Unexpected) × Refuses L most_nested ts rest) ⊎ ((n ≡ rule_number rule.TooDeep) × IsDeep L most_nested ts rest)
 
 -- From the token `at` on: the longest front of the rest that is in L, the tree that `view` shows, and the number of the token
--- behind it; or the place of the first fault.
+-- after it; or the place of the first fault.
 abbrev pub PartAnswer : {X A : Type 0} → (ℕ → List Piece → A → Type 0) → (X → A) → List Token → ℕ → Result (X × ℕ) FrontStop → Type 0
 PartAnswer L view tokens at (Ok x) = Accepts L most_nested (pieces (drop at tokens)) (view x.0) (pieces (drop x.1 tokens))
 PartAnswer L view tokens at (Err (front.Refused n place)) = (rest : List Piece) × (first_place rest ≡ place) × Refusal L n (pieces (drop at tokens)) rest

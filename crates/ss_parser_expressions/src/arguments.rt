@@ -43,7 +43,7 @@ fn parse_args(alloc: Global, depth: u32, tokens: &[Token]) -> Result<(Vec<Expr>,
     parse_more_args(alloc, depth, given, rest)
 }
 
-// The arguments behind the first.
+// The arguments after the first.
 #[cycle(expr)]
 fn parse_more_args(
     alloc: Global,

@@ -21,7 +21,7 @@ use ss_parser_expression_trees::build::Inside;
 use ss_parser_expression_trees::heads::{Start, expect, is_castable, type_word};
 use std::alloc::Global;
 
-// What is behind `(` and a name, up to the `)`.
+// What is after `(` and a name, up to the `)`.
 #[cycle(expr)]
 #[tactic(auto, using(crate::proofs::Readers::inner_is))]
 fn inner_named(
@@ -92,7 +92,7 @@ fn parse_after_paren(
     parse_postfixes(alloc, depth, place, inner, tokens)
 }
 
-// What is behind a name in parentheses.
+// What is after a name in parentheses.
 #[cycle(expr)]
 #[tactic(auto, unfolding(ss_grammar_expressions::specs::Parser::bare_end))]
 fn parse_bare(
@@ -120,7 +120,7 @@ fn parse_bare(
     }
 }
 
-// What is behind the parentheses that begin with a name.
+// What is after the parentheses that begin with a name.
 #[cycle(expr)]
 #[tactic(auto, unfolding(ss_grammar_expressions::specs::Parser::closed))]
 fn parse_closed(
@@ -140,7 +140,7 @@ fn parse_closed(
     }
 }
 
-// A cast, behind `(` and a type's word.
+// A cast, after `(` and a type's word.
 #[cycle(expr)]
 #[tactic(auto, unfolding(ss_grammar_expressions::specs::Parser::word_paren))]
 fn parse_word_paren(
@@ -159,7 +159,7 @@ fn parse_word_paren(
     parse_cast_only(alloc, depth, place, ty, rest)
 }
 
-// What is behind `(` and a name that no `)` follows.
+// What is after `(` and a name that no `)` follows.
 #[cycle(expr)]
 #[tactic(auto, unfolding(ss_grammar_expressions::specs::Parser::enclosed))]
 fn parse_enclosed(
@@ -178,7 +178,7 @@ fn parse_enclosed(
     parse_closed(alloc, depth, place, inside, rest)
 }
 
-// A cast or an expression in parentheses, behind `(` and a name.
+// A cast or an expression in parentheses, after `(` and a name.
 #[cycle(expr)]
 #[tactic(auto, unfolding(ss_grammar_expressions::specs::Parser::name_paren))]
 fn parse_name_paren(
@@ -204,7 +204,7 @@ fn parse_name_paren(
     }
 }
 
-// An expression in parentheses, behind the `(`.
+// An expression in parentheses, after the `(`.
 #[cycle(expr)]
 #[tactic(auto, unfolding(ss_grammar_expressions::specs::Parser::other_paren))]
 fn parse_other_paren(
@@ -221,7 +221,7 @@ fn parse_other_paren(
     parse_after_paren(alloc, depth, place, inner, rest)
 }
 
-/// A cast or an expression in parentheses, behind the `(`.
+/// A cast or an expression in parentheses, after the `(`.
 #[cycle(expr)]
 #[tactic(auto, unfolding(ss_grammar_expressions::specs::Parser::paren))]
 pub fn parse_paren(

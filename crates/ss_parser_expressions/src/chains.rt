@@ -5,8 +5,8 @@ ghost use Rattle.ss_ast.specs.Expressions.{expr_tree};
 ghost use Rattle.ss_grammar.specs.Reading.{times};
 ghost use Rattle.ss_grammar.specs.Stops.{Gives};
 ghost use Rattle.ss_grammar_expressions.specs.Heads.{pieces, link_head};
-ghost use Rattle.ss_grammar_expressions.specs.Parser.{below, joins, link_behind, chain, operand};
-ghost use Rattle.ss_ast.specs.Parts.{link_behind as link_tree};
+ghost use Rattle.ss_grammar_expressions.specs.Parser.{below, joins, link_after, chain, operand};
+ghost use Rattle.ss_ast.specs.Parts.{link_after as link_tree};
 ghost use Rattle.ss_parser_expression_trees.specs.View.{joint_of};
 
 use crate::types::parse_plain_type;
@@ -40,9 +40,9 @@ fn parse_operand(
     }
 }
 
-// What is behind an operator.
+// What is after an operator.
 #[cycle(expr)]
-#[tactic(auto, unfolding(ss_grammar_expressions::specs::Parser::link_behind))]
+#[tactic(auto, unfolding(ss_grammar_expressions::specs::Parser::link_after))]
 fn parse_link(
     alloc: Global,
     depth: u32,
@@ -51,7 +51,7 @@ fn parse_link(
     tokens: &[Token],
 ) -> Result<(Link, &[Token]), Stop>
     requires { rank < 6 }
-    ensures gives { Gives (λ x. (link_tree x.0, pieces x.1.now)) result (link_behind depth (below depth) (operand depth (below depth) rank) (joint_of joint) (pieces tokens.now)) }
+    ensures gives { Gives (λ x. (link_tree x.0, pieces x.1.now)) result (link_after depth (below depth) (operand depth (below depth) rank) (joint_of joint) (pieces tokens.now)) }
     ensures fewer { IfOk result (λ x. length x.1.now ≤ length tokens.now) }
 {
     match joint {
@@ -70,7 +70,7 @@ fn parse_link(
     }
 }
 
-/// Operators up to this rank, behind the first operand.
+/// Operators up to this rank, after the first operand.
 #[cycle(expr)]
 #[tactic(auto, unfolding(ss_grammar_expressions::specs::Parser::chain))]
 pub fn parse_chain(
@@ -92,7 +92,7 @@ pub fn parse_chain(
     parse_links(alloc, depth, rank - 1, place, first, rest)
 }
 
-// Operators above this rank by one, behind the first operand.
+// Operators above this rank by one, after the first operand.
 #[cycle(expr)]
 fn parse_links(
     alloc: Global,
@@ -103,7 +103,7 @@ fn parse_links(
     tokens: &[Token],
 ) -> Result<(Box<Expr>, &[Token]), Stop>
     requires { rank < 6 }
-    ensures gives { Gives (λ x. (expr_tree x.0.value, pieces x.1.now)) result (times (link_head (rank + 1)) (link_behind depth (below depth) (operand depth (below depth) rank)) (joins depth (below depth) place) (length (pieces tokens.now)) (expr_tree first.value) (pieces tokens.now)) }
+    ensures gives { Gives (λ x. (expr_tree x.0.value, pieces x.1.now)) result (times (link_head (rank + 1)) (link_after depth (below depth) (operand depth (below depth) rank)) (joins depth (below depth) place) (length (pieces tokens.now)) (expr_tree first.value) (pieces tokens.now)) }
     ensures fewer { IfOk result (λ x. length x.1.now ≤ length tokens.now) }
 {
     let mut links = Vec::new(alloc);

@@ -1,4 +1,4 @@
-// What stands behind `(` and a name.
+// What stands after `(` and a name.
 
 ghost use Rattle.std.specs.Prelude.{◌<◌, ◌≤◌, length, IfOk};
 ghost use Rattle.ss_ast.specs.Expressions.{expr_tree, name_tree};
@@ -19,7 +19,7 @@ use ss_parser_expression_trees::build::Inside;
 use ss_parser_expression_trees::heads::expect;
 use std::alloc::Global;
 
-// The rest of an expression, behind the beginning of its first path.
+// The rest of an expression, after the beginning of its first path.
 #[cycle(expr)]
 #[tactic(auto, unfolding(ss_grammar_expressions::specs::Parser::rest_of))]
 fn parse_rest(
@@ -36,7 +36,7 @@ fn parse_rest(
     parse_expression_from(alloc, depth, place, first, rest)
 }
 
-// The rest of an array's type, behind `[`.
+// The rest of an array's type, after `[`.
 #[tactic(auto, unfolding(ss_grammar_expressions::specs::Parser::array_end))]
 fn parse_array_end(depth: u32, name: Name, tokens: &[Token]) -> Result<(Inside, &[Token]), Stop>
     ensures gives { Gives (λ x. (inside_of x.0, pieces x.1.now)) result (array_end depth (below depth) (name_tree name) (pieces tokens.now)) }
@@ -47,7 +47,7 @@ fn parse_array_end(depth: u32, name: Name, tokens: &[Token]) -> Result<(Inside, 
     Ok((build::class_type(name, true, non_null), rest))
 }
 
-// The rest of an expression, behind a name and `[`.
+// The rest of an expression, after a name and `[`.
 #[cycle(expr)]
 #[tactic(auto, unfolding(ss_grammar_expressions::specs::Parser::element_end))]
 fn parse_element_end(
@@ -67,7 +67,7 @@ fn parse_element_end(
     Ok((Inside::Expr(inner), rest))
 }
 
-// What is behind `(`, a name and `[`.
+// What is after `(`, a name and `[`.
 #[cycle(expr)]
 #[tactic(auto, unfolding(ss_grammar_expressions::specs::Parser::element_or_array))]
 fn parse_element_or_array(
@@ -92,7 +92,7 @@ fn parse_element_or_array(
     }
 }
 
-// The rest of an expression, behind its first name.
+// The rest of an expression, after its first name.
 #[cycle(expr)]
 #[tactic(auto, unfolding(ss_grammar_expressions::specs::Parser::named_rest))]
 fn parse_named_rest(
@@ -110,9 +110,9 @@ fn parse_named_rest(
     Ok((Inside::Expr(inner), rest))
 }
 
-/// What is behind `(` and a name: the rest of a type or of an expression.
+/// What is after `(` and a name: the rest of a type or of an expression.
 #[cycle(expr)]
-#[tactic(auto, unfolding(ss_grammar_expressions::specs::Parser::named_end, ss_grammar_expressions::specs::Parser::named_behind))]
+#[tactic(auto, unfolding(ss_grammar_expressions::specs::Parser::named_end, ss_grammar_expressions::specs::Parser::named_after))]
 pub fn parse_named(
     alloc: Global,
     depth: u32,

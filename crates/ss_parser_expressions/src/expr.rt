@@ -13,7 +13,7 @@ use ss_core::FrontStop;
 use ss_grammar::fault::Stop;
 use std::alloc::Global;
 
-/// The longest expression from the token `at` on, and the number of the token behind it, which is there where the tokens
+/// The longest expression from the token `at` on, and the number of the token after it, which is there where the tokens
 /// end with the end of the text. Refused with 10 where the
 /// tokens so far aren't whole and the next one cannot go on, and with 11 where it opens the 65th level.
 pub fn parse_expr(alloc: Global, tokens: &[Token], at: usize) -> Result<(Expr, usize), FrontStop>

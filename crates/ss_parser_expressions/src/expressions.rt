@@ -78,7 +78,7 @@ fn parse_implication_end(
     }
 }
 
-// An implication, behind its first unary expression.
+// An implication, after its first unary expression.
 #[cycle(expr)]
 #[tactic(auto, unfolding(ss_grammar_expressions::specs::Parser::implication_from))]
 fn parse_implication_from(
@@ -143,7 +143,7 @@ fn parse_iff_end(
     }
 }
 
-/// An expression, behind its first unary expression.
+/// An expression, after its first unary expression.
 #[cycle(expr)]
 #[tactic(auto, unfolding(ss_grammar_expressions::specs::Parser::expression_from))]
 pub fn parse_expression_from(
@@ -160,7 +160,7 @@ pub fn parse_expression_from(
     parse_iff_end(alloc, depth, place, left, rest)
 }
 
-/// The longest expression, at most so deep, and the tokens behind it.
+/// The longest expression, at most so deep, and the tokens after it.
 #[cycle(expr)]
 #[tactic(auto, unfolding(ss_grammar_expressions::specs::Parser::whole_expression))]
 pub fn parse_expression(

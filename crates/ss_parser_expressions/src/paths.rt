@@ -7,7 +7,7 @@ ghost use Rattle.ss_grammar.specs.Stops.{Gives, GivesMore};
 ghost use Rattle.ss_grammar_expressions.specs.First.{tokened};
 ghost use Rattle.ss_grammar_expressions.specs.Heads.{pieces, postfix_head};
 ghost use Rattle.ss_grammar_expressions.specs.Parser.{below, postfix, postfixes, new, old, new_end};
-ghost use Rattle.ss_ast.specs.Parts.{postfix_behind as postfix_tree};
+ghost use Rattle.ss_ast.specs.Parts.{postfix_after as postfix_tree};
 ghost use Rattle.ss_parser_expression_trees.specs.View.{start_of};
 
 use crate::arguments::{parse_args_end, parse_index_end, parse_paren_end};
@@ -20,7 +20,7 @@ use std::alloc::Global;
 
 /// A postfix of a path, where one begins.
 #[cycle(expr)]
-#[tactic(auto, unfolding(ss_grammar_expressions::specs::Parser::postfix_behind))]
+#[tactic(auto, unfolding(ss_grammar_expressions::specs::Parser::postfix_after))]
 pub fn parse_postfix(
     alloc: Global,
     depth: u32,
@@ -77,7 +77,7 @@ pub fn parse_postfixes(
     Ok((build::path(alloc, place, first, postfixes)?, rest))
 }
 
-/// What is behind `new`.
+/// What is after `new`.
 #[cycle(expr)]
 #[tactic(auto, unfolding(ss_grammar_expressions::specs::Parser::new))]
 pub fn parse_new(
@@ -93,9 +93,9 @@ pub fn parse_new(
     parse_new_end(alloc, depth, place, start, rest)
 }
 
-// What is behind `new` and a type.
+// What is after `new` and a type.
 #[cycle(expr)]
-#[tactic(auto, unfolding(ss_grammar_expressions::specs::Parser::new_end, ss_grammar_expressions::specs::Parser::new_behind))]
+#[tactic(auto, unfolding(ss_grammar_expressions::specs::Parser::new_end, ss_grammar_expressions::specs::Parser::new_after))]
 fn parse_new_end(
     alloc: Global,
     depth: u32,
@@ -133,9 +133,9 @@ fn parse_new_end(
     }
 }
 
-/// What is behind `old`.
+/// What is after `old`.
 #[cycle(expr)]
-#[tactic(auto, unfolding(ss_grammar_expressions::specs::Parser::old, ss_grammar_expressions::specs::Parser::old_behind))]
+#[tactic(auto, unfolding(ss_grammar_expressions::specs::Parser::old, ss_grammar_expressions::specs::Parser::old_after))]
 pub fn parse_old(
     alloc: Global,
     depth: u32,

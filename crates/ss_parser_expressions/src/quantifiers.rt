@@ -5,7 +5,7 @@ ghost use Rattle.ss_ast.specs.Expressions.{expr_tree, name_tree};
 ghost use Rattle.ss_grammar.specs.Stops.{Gives};
 ghost use Rattle.ss_grammar_expressions.specs.Heads.{pieces, QuantifierHead};
 ghost use Rattle.ss_grammar_expressions.specs.Grammar.{TheRange};
-ghost use Rattle.ss_grammar_expressions.specs.Parser.{below, range_high, range_end, range, body, bound, bounds_and_body, quantified_behind, quantified, unary_behind, bound_name};
+ghost use Rattle.ss_grammar_expressions.specs.Parser.{below, range_high, range_end, range, body, bound, bounds_and_body, quantified_after, quantified, unary_after, bound_name};
 
 use crate::arguments::{inner_expression, parse_paren_end};
 use crate::paths::parse_postfixes;
@@ -49,7 +49,7 @@ fn parse_range_high(
     Ok(((low, high), rest))
 }
 
-// Both bounds, behind `(`.
+// Both bounds, after `(`.
 #[cycle(expr)]
 #[tactic(auto, unfolding(ss_grammar_expressions::specs::Parser::range_end))]
 fn parse_range_end(
@@ -150,9 +150,9 @@ fn parse_bounds_and_body(
     ))
 }
 
-// What is behind the `{` of a quantifier.
+// What is after the `{` of a quantifier.
 #[cycle(expr)]
-#[tactic(auto, unfolding(ss_grammar_expressions::specs::Parser::quantified_behind))]
+#[tactic(auto, unfolding(ss_grammar_expressions::specs::Parser::quantified_after))]
 fn parse_quantified_end(
     alloc: Global,
     depth: u32,
@@ -161,14 +161,14 @@ fn parse_quantified_end(
     tokens: &[Token],
 ) -> Result<(Box<Expr>, &[Token]), Stop>
     requires { 0 < depth }
-    ensures gives { Gives (λ x. (expr_tree x.0.value, pieces x.1.now)) result (quantified_behind depth (below depth) place quantifier (pieces tokens.now)) }
+    ensures gives { Gives (λ x. (expr_tree x.0.value, pieces x.1.now)) result (quantified_after depth (below depth) place quantifier (pieces tokens.now)) }
     ensures fewer { IfOk result (λ x. length x.1.now ≤ length tokens.now) }
 {
     let (name, rest) = parse_bound(depth, tokens)?;
     parse_bounds_and_body(alloc, depth, place, quantifier, name, rest)
 }
 
-/// What is behind `forall` or `exists`.
+/// What is after `forall` or `exists`.
 #[cycle(expr)]
 #[tactic(auto, unfolding(ss_grammar_expressions::specs::Parser::quantified))]
 pub fn parse_quantified(
@@ -198,9 +198,9 @@ pub fn parse_quantified(
     }
 }
 
-/// A quantifier and its postfixes, behind `forall` or `exists`.
+/// A quantifier and its postfixes, after `forall` or `exists`.
 #[cycle(expr)]
-#[tactic(auto, unfolding(ss_grammar_expressions::specs::Parser::unary_behind))]
+#[tactic(auto, unfolding(ss_grammar_expressions::specs::Parser::unary_after))]
 pub fn parse_then_postfixes(
     alloc: Global,
     depth: u32,
@@ -208,7 +208,7 @@ pub fn parse_then_postfixes(
     quantifier: Quantifier,
     tokens: &[Token],
 ) -> Result<(Box<Expr>, &[Token]), Stop>
-    ensures gives { Gives (λ x. (expr_tree x.0.value, pieces x.1.now)) result (unary_behind depth (below depth) (QuantifierHead place quantifier) (pieces tokens.now)) }
+    ensures gives { Gives (λ x. (expr_tree x.0.value, pieces x.1.now)) result (unary_after depth (below depth) (QuantifierHead place quantifier) (pieces tokens.now)) }
     ensures fewer { IfOk result (λ x. length x.1.now ≤ length tokens.now) }
 {
     let (first, rest) = parse_quantified(alloc, depth, place, quantifier, tokens)?;

@@ -65,7 +65,7 @@ pub fn parse_bang(tokens: &[Token]) -> Result<(bool, &[Token]), Stop>
     }
 }
 
-/// A type, behind its word or name.
+/// A type, after its word or name.
 #[tactic(auto, unfolding(ss_grammar_expressions::specs::Parser::type_end))]
 pub fn parse_type_end(
     depth: u32,
@@ -89,7 +89,7 @@ pub fn parse_type_end(
     ))
 }
 
-/// A type behind `is` or `as`, where a `!` is not read.
+/// A type after `is` or `as`, where a `!` is not read.
 #[tactic(auto, unfolding(ss_grammar_expressions::specs::Parser::plain_type))]
 pub fn parse_plain_type(depth: u32, tokens: &[Token]) -> Result<(TypeRef, &[Token]), Stop>
     ensures gives { Gives (λ x. (type_tree x.0, pieces x.1.now)) result (plain_type depth (pieces tokens.now)) }
@@ -109,7 +109,7 @@ pub fn parse_plain_type(depth: u32, tokens: &[Token]) -> Result<(TypeRef, &[Toke
     ))
 }
 
-/// A type behind `(` and its word.
+/// A type after `(` and its word.
 #[tactic(auto, using(crate::proofs::Readers::inner_is))]
 pub fn inner_type_end(
     depth: u32,

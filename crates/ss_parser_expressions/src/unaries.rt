@@ -5,7 +5,7 @@ ghost use Rattle.ss_ast.specs.Expressions.{expr_tree};
 ghost use Rattle.ss_grammar.specs.Stops.{Gives};
 ghost use Rattle.ss_grammar_expressions.specs.Heads.{pieces};
 ghost use Rattle.ss_grammar_expressions.specs.Grammar.{TheUnary};
-ghost use Rattle.ss_grammar_expressions.specs.Parser.{below, negation, negated, unary_behind, unary};
+ghost use Rattle.ss_grammar_expressions.specs.Parser.{below, negation, negated, unary_after, unary};
 ghost use Rattle.ss_parser_expression_trees.specs.View.{opening_of};
 
 use crate::casts::parse_paren;
@@ -50,7 +50,7 @@ fn parse_negation(
     Ok((build::negated(alloc, place, operand)?, rest))
 }
 
-// What is behind a prefix `-`, with which 2147483648 is one literal.
+// What is after a prefix `-`, with which 2147483648 is one literal.
 #[cycle(expr)]
 #[tactic(auto, unfolding(ss_grammar_expressions::specs::Parser::negated))]
 fn parse_negated(
@@ -78,9 +78,9 @@ fn parse_negated(
     }
 }
 
-// What is behind a token that opens a level.
+// What is after a token that opens a level.
 #[cycle(expr)]
-#[tactic(auto, unfolding(ss_grammar_expressions::specs::Parser::unary_behind))]
+#[tactic(auto, unfolding(ss_grammar_expressions::specs::Parser::unary_after))]
 fn parse_opening(
     alloc: Global,
     depth: u32,
@@ -89,7 +89,7 @@ fn parse_opening(
     tokens: &[Token],
 ) -> Result<(Box<Expr>, &[Token]), Stop>
     requires { 0 < depth }
-    ensures gives { Gives (λ x. (expr_tree x.0.value, pieces x.1.now)) result (unary_behind depth (below depth) (opening_of place opening) (pieces tokens.now)) }
+    ensures gives { Gives (λ x. (expr_tree x.0.value, pieces x.1.now)) result (unary_after depth (below depth) (opening_of place opening) (pieces tokens.now)) }
     ensures fewer { IfOk result (λ x. length x.1.now ≤ length tokens.now) }
 {
     match opening {
@@ -104,7 +104,7 @@ fn parse_opening(
 
 /// A unary expression.
 #[cycle(expr)]
-#[tactic(auto, unfolding(ss_grammar_expressions::specs::Parser::unary, ss_grammar_expressions::specs::Parser::unary_behind))]
+#[tactic(auto, unfolding(ss_grammar_expressions::specs::Parser::unary, ss_grammar_expressions::specs::Parser::unary_after))]
 pub fn parse_unary(
     alloc: Global,
     depth: u32,

@@ -25,7 +25,7 @@ pub enum PrimStart {
     Quantifier(Place, Quantifier),
 }
 
-/// What stands behind the path of an assignment.
+/// What stands after the path of an assignment.
 #[derive(Clone, Copy)]
 pub enum SimpleStart {
     Assign(AssignOperator),
@@ -84,7 +84,7 @@ pub fn prim_start(alloc: Global, token: &Token) -> Result<Option<PrimStart>, All
     }
 }
 
-/// What stands behind the path of an assignment, where it may be this symbol.
+/// What stands after the path of an assignment, where it may be this symbol.
 pub fn simple_start(symbol: Symbol) -> Option<SimpleStart>
     ensures { simple_symbol symbol ≡ option_map simple_start_of result }
 {
@@ -177,7 +177,7 @@ pub fn stmt_start(alloc: Global, token: &Token) -> Result<Option<StmtStart>, All
     }
 }
 
-/// What the next statement begins with, its first token and the tokens behind it, where a statement begins here.
+/// What the next statement begins with, its first token and the tokens after it, where a statement begins here.
 pub fn next_start(
     alloc: Global,
     tokens: &[Token],

@@ -50,11 +50,11 @@ starts_with_value (Some f) = is_some f.initial
 unfoldable pub has_initializer : TypedTree → ℕ → Set
 has_initializer p t i = starts_with_value (slice_get (written_fields p t) i)
 
--- behind the initializers, which come before all else
+-- after the initializers, which come before all else
 abbrev pub assigned_by_initializers : TypedTree → ℕ → Assigned
 assigned_by_initializers p t = record { own = has_initializer p t; above = false }
 
 -- At the beginning of the block. `: base(..)` has been called, or the `base(..)` that is implied where none is written: where that one comes
--- behind the first assignments, these read no field of `this`, so it makes no difference.
+-- after the first assignments, these read no field of `this`, so it makes no difference.
 abbrev pub assigned_first : TypedTree → BodyTree → Assigned
 assigned_first p b = record (assigned_by_initializers p b.class) { above = not (has_base (in_block b.block)) }

@@ -1,4 +1,4 @@
--- The statements with which a constructor's block begins, and behind which a `base(..)` that isn't written is implied.
+-- The statements with which a constructor's block begins, and after which a `base(..)` that isn't written is implied.
 use Rattle.std.specs.Prelude.{ℕ, Bool, true, false, not, ◌&&◌, if◌then◌else◌}
 use Rattle.ss_ast.specs.declared.stmt.AssignOperator.TheVariants as assign
 use Rattle.ss_typed.specs.Tree.{ExprTree, FieldOf, SimpleTree, AssignOf, StmtTree, SimpleOf, StmtTrees, NoMore, Before, TypedTree}

@@ -8,7 +8,7 @@ use Rattle.ss_typed.specs.Shapes.{is_true}
 
 -- How a kind of knowledge goes along paths.
 pub record Flow (S : Type 0) : Type 0 where
-  -- behind a declared local, and behind a simple statement
+  -- after a declared local, and after a simple statement
   pub declared : DeclaratorTree → S → S
   pub done : SimpleTree → S → S
   -- where a test has come out true, or false
@@ -26,12 +26,12 @@ met f (Some k) (Some l) = Some (f.meet k l)
 
 -- ---- declarations and loops
 
--- behind locals that are declared one after the other
+-- after locals that are declared one after the other
 abbrev pub all_declared : {S : Type 0} → Flow S → List DeclaratorTree → S → S
 all_declared f [] k = k
 all_declared f (d ∷ ds) k = all_declared f ds (f.declared d k)
 
--- behind what a `for` begins with
+-- after what a `for` begins with
 abbrev pub begun : {S : Type 0} → Flow S → Option InitTree → S → S
 begun f None k = k
 begun f (Some (DeclareFirst ds)) k = all_declared f ds k
@@ -42,16 +42,16 @@ abbrev pub test_of : Place → Option ExprTree → ExprTree
 test_of p None = BoolOf p true
 test_of p (Some e) = e
 
--- behind a loop with this test, at whose head this is known: one on the literal `true` is left by a return alone
+-- after a loop with this test, at whose head this is known: one on the literal `true` is left by a return alone
 abbrev pub left : {S : Type 0} → Flow S → ExprTree → S → Option S
 left f e k = if is_true e then None else Some (f.tested e false k)
 
 -- ---- statements
 
 abbrev mutual
-  -- what is known behind the statement; None where its end can't be reached
+  -- what is known after the statement; None where its end can't be reached
   pub behind : {S : Type 0} → Flow S → StmtTree → S → Option S
-  behind f (InBlock b) k = behind_block f b k
+  behind f (InBlock b) k = after_block f b k
   behind f (DeclareOf ds) k = Some (all_declared f ds k)
   behind f (SimpleOf s) k = Some (f.done s k)
   behind f (IfOf p e a) k = met f (behind f a (f.tested e true k)) (Some (f.tested e false k))
@@ -59,13 +59,13 @@ abbrev mutual
   behind f (WhileOf p e invariants s) k = left f e (f.head s None k)
   behind f (ForOf p first e step invariants s) k = left f (test_of p e) (f.head s step (begun f first k))
   behind f (ReturnOf p e) k = None
-  behind f (ExposeOf p e t b) k = behind_block f b k
+  behind f (ExposeOf p e t b) k = after_block f b k
   behind f (AssertOf p e) k = Some k
   behind f (AssumeOf p e) k = Some k
   behind f (EmptyOf p) k = Some k
 
-  pub behind_block : {S : Type 0} → Flow S → BlockTree → S → Option S
-  behind_block f (BlockOf p ss end) k = at_end f ss (Some k)
+  pub after_block : {S : Type 0} → Flow S → BlockTree → S → Option S
+  after_block f (BlockOf p ss end) k = at_end f ss (Some k)
 
   -- what is known at the end of the statements
   pub at_end : {S : Type 0} → Flow S → StmtTrees → Option S → Option S
@@ -107,7 +107,7 @@ at_head f s step k = option_map (f.head s step) k
 abbrev pub in_loop : {S : Type 0} → Flow S → ExprTree → StmtTree → Option SimpleTree → Option S → Option S
 in_loop f e s step k = side f e true (at_head f s step k)
 
--- behind what a `for` begins with
+-- after what a `for` begins with
 abbrev pub behind_first : {S : Type 0} → Flow S → Option InitTree → Option S → Option S
 behind_first f first k = option_map (begun f first) k
 

@@ -23,7 +23,7 @@ firsts_at n [] (suc k) d l = absurd (omega arith)
 firsts_at n (c ∷ cs) zero d l = sym (add-zero n)
 firsts_at n (c ∷ cs) (suc k) d l = firsts_at (n + field_count c) cs k d (omega arith) ∙ add_assoc n (field_count c) (sum_by field_count (take k cs)) ∙ ap (λ s. n + s) (sym (sum_by-cons field_count c (take k cs)))
 
--- the number of a class's first field, where it was read at the place of the class, or behind all
+-- the number of a class's first field, where it was read at the place of the class, or after all
 pub first_is : (cs : List ClassTree) (fs : List ℕ) (n k place x : ℕ) → fs ≡ firsts_from 0 cs → x ≡ get_or fs place x → place ≡ min k n → n ≡ length cs → x ≡ sum_by field_count (take k cs)
 first_is cs fs n k place x fs_is x_is place_is n_is =
     let long = ap length fs_is ∙ firsts_length 0 cs in

@@ -60,7 +60,7 @@ impl Assigned {
         Ok(())
     }
 
-    // Behind an assignment with this operator.
+    // After an assignment with this operator.
     fn assign_by(
         &mut self,
         numbers: Numbers,
@@ -78,7 +78,7 @@ impl Assigned {
         }
     }
 
-    /// Behind a simple statement.
+    /// After a simple statement.
     pub fn assign(&mut self, numbers: Numbers, done: &TypedSimple) -> Result<(), AllocError>
         ensures { IfOk result (λ u. assigned_of self.new ≡ assigned_by (numbers_of numbers) (simple_of done.now) (assigned_of self.old)) }
     {

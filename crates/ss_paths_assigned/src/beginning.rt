@@ -46,7 +46,7 @@ pub fn started_in(alloc: Global, class: Option<&TypedClass>) -> Result<BitSet, A
     }
 }
 
-/// Behind the initializers of the class.
+/// After the initializers of the class.
 pub fn assigned_by_initializers(
     alloc: Global,
     program: &Typed,

@@ -53,7 +53,7 @@ fn field_count(class: &Class) -> usize
     class.fields.len()
 }
 
-// The number that a class's first field has goes into the list; the one behind its last field is answered. More fields than a
+// The number that a class's first field has goes into the list; the one after its last field is answered. More fields than a
 // word counts don't fit into memory.
 fn add_class(firsts: &mut Vec<usize>, next: usize, class: &Class) -> Result<usize, AllocError>
     ensures { IfOk result (λ n. (rest : List ClassTree) → firsts.new.items ++ firsts_from n rest ≡ firsts.old.items ++ firsts_from next (class_of class.now ∷ rest)) }

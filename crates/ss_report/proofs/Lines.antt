@@ -32,11 +32,11 @@ no_budget k low (u ∷ us) less h =
     rw first (no_budget k (u.obligation + 1) us (omega arith) h.1)
 
 -- one that isn't the first, where the first isn't below
-pub behind_countered : (k : ℕ) (c : Countered) (cs : List Countered) → c.obligation < k → is_countered cs k ≡ is_countered (c ∷ cs) k
-behind_countered k c cs less = let first : (c.obligation == k) ≡ false = ne_eqb c.obligation k (λ e. absurd (omega arith)) in rw first refl
+pub after_countered : (k : ℕ) (c : Countered) (cs : List Countered) → c.obligation < k → is_countered cs k ≡ is_countered (c ∷ cs) k
+after_countered k c cs less = let first : (c.obligation == k) ≡ false = ne_eqb c.obligation k (λ e. absurd (omega arith)) in rw first refl
 
-pub behind_budget : (k : ℕ) (u : Undecided) (us : List Undecided) → u.obligation < k → budget_of us k ≡ budget_of (u ∷ us) k
-behind_budget k u us less = let first : (u.obligation == k) ≡ false = ne_eqb u.obligation k (λ e. absurd (omega arith)) in rw first refl
+pub after_budget : (k : ℕ) (u : Undecided) (us : List Undecided) → u.obligation < k → budget_of us k ≡ budget_of (u ∷ us) k
+after_budget k u us less = let first : (u.obligation == k) ≡ false = ne_eqb u.obligation k (λ e. absurd (omega arith)) in rw first refl
 
 pub first_rises : (n : ℕ) (c : Countered) (cs : List Countered) → c.obligation ≢ n → AreRisingFrom n (countered_numbers (c ∷ cs)) → AreRisingFrom (n + 1) (countered_numbers (c ∷ cs))
 first_rises n c cs other h = (omega arith, h.1)
@@ -86,7 +86,7 @@ module _ {X : Type 0} (c : CoreTree) (f : X → tree.Obligation) where
       let split : text ++ lines_from c cs us i (drop i (map f xs)) ≡ text ++ (line ++ rest) = ap (λ os. text ++ lines_from c cs us i os) (next xs i d small) in
       ap (λ t. t ++ lines_from c ds vs (i + 1) (drop (i + 1) (map f xs))) (e ∙ ap (λ l. text ++ l) told) ∙ ap (λ l. (text ++ line) ++ l) same ∙ append_assoc text line rest ∙ sym split ∙ h
 
--- the parts of a text, one behind the other
+-- the parts of a text, one after the other
 pub four_parts : (a b c d : List ℕ) → a ++ (b ++ (c ++ d)) ≡ a ++ b ++ c ++ d
 four_parts a b c d = simp append_assoc
 

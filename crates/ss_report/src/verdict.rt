@@ -67,7 +67,7 @@ fn push_line(
     }
 }
 
-// Whether a model refutes the obligation of this number, which none that is listed comes before; and those behind it.
+// Whether a model refutes the obligation of this number, which none that is listed comes before; and those after it.
 fn next_countered(rest: &[Countered], number: usize) -> (bool, &[Countered])
     requires { AreRisingFrom number (countered_numbers rest.now) }
     ensures refuted { result.0 ≡ is_countered rest.now number }
@@ -84,7 +84,7 @@ fn next_countered(rest: &[Countered], number: usize) -> (bool, &[Countered])
     }
 }
 
-// Which budget wasn't enough for the obligation of this number; and those behind it.
+// Which budget wasn't enough for the obligation of this number; and those after it.
 fn next_undecided(rest: &[Undecided], number: usize) -> (Option<Budget>, &[Undecided])
     requires { AreRisingFrom number (undecided_numbers rest.now) }
     ensures over { result.0 ≡ budget_of rest.now number }

@@ -22,7 +22,7 @@ one_body t b q e = ap (λ p. cond p (b ∷ []) []) e
 not_of : (t : ℕ) (bs : List BodyTree) (b : BodyTree) → b.class ≢ t → bodies_of t (bs ++ b ∷ []) ≡ bodies_of t bs
 not_of t bs b h = filter-append (λ (x : BodyTree). x.class == t) bs (b ∷ []) ∙ ap (λ ys. bodies_of t bs ++ ys) (one_body t b false (ne_eqb b.class t h)) ∙ append-nil (bodies_of t bs)
 
--- a body of the class stands behind the others
+-- a body of the class stands after the others
 one_of : (t : ℕ) (bs : List BodyTree) (b : BodyTree) → b.class ≡ t → bodies_of t (bs ++ b ∷ []) ≡ bodies_of t bs ++ b ∷ []
 one_of t bs b h = filter-append (λ (x : BodyTree). x.class == t) bs (b ∷ []) ∙ ap (λ ys. bodies_of t bs ++ ys) (one_body t b true (eq-eqb b.class t h))
 
@@ -76,7 +76,7 @@ left_out count bs b gs apart are = record {
 pub past_last : (count t j k : ℕ) → t ≡ 4 + 2 * j → count ≤ j → k < count → t ≢ 4 + 2 * k
 past_last count t j k is past h same = absurd (omega arith)
 
--- a body stands behind the others of its class
+-- a body stands after the others of its class
 pub added : (count : ℕ) (bs : List BodyTree) (gs : List (Vec (Bor Body))) (j : ℕ) (b : Bor Body) (g more : Vec (Bor Body)) → (view.body b.now).class ≡ 4 + 2 * j → j < length gs → slice_get gs j ≡ Some g → more.items ≡ g.items ++ b ∷ []
     → AreGroups count bs gs → AreGroups count (bs ++ view.body b.now ∷ []) (set gs j more)
 added count bs gs j b g more class_is inside is grown are =

@@ -16,7 +16,7 @@ pub three_written : {T E : Type 0} (r : Result T E) (new o0 o1 o2 a b c t : List
 three_written r new o0 o1 o2 a b c t e1 e2 et h =
     two_written r new o0 o2 (a ++ b) c t (e2 ∙ ap (λ o. o ++ b) e1 ∙ append_assoc o0 a b) (et ∙ sym (append_assoc a b c)) h
 
--- the rest of a list behind a place, mapped
+-- the rest of a list after a place, mapped
 pub map_drop : {X Y : Type 0} (f : X → Y) (xs : List X) (i : ℕ) (x : X) → i < length xs → x ≡ get_or xs i x → map f (drop i xs) ≡ f x ∷ map f (drop (i + 1) xs)
 map_drop f xs i x h e =
     let next : suc i ≡ i + 1 = omega arith in

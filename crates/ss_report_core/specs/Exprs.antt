@@ -53,11 +53,11 @@ owners_text cs (OwnedAt t) a b = codes "Owner.Is(" ++ a ++ codes ", " ++ b ++ co
 abbrev pub head_text : List (List ℕ) → Quantifier → List ℕ → List ℕ
 head_text names q name = quantifier_text q ++ codes "{int " ++ marked names name ++ codes " in ("
 
--- an exclamation mark behind a class that null doesn't pass
+-- an exclamation mark after a class that null doesn't pass
 abbrev pub null_mark : Bool → List ℕ
 null_mark non_null = if non_null then codes "!" else []
 
--- The text of an expression over these names of locals and, behind them, of bound names. A condition of a default contract stands in no text, and
+-- The text of an expression over these names of locals and, after them, of bound names. A condition of a default contract stands in no text, and
 -- nothing is written for it.
 abbrev pub expr_text : List ClassTree → List (List ℕ) → ExprTree → List ℕ
 expr_text cs names (IntExpr p n) = signed_decimal n

@@ -1,5 +1,5 @@
 pub mod Exprs
 pub mod Stmts
 pub mod Text
-pub mod Behinds
+pub mod Afters
 pub mod Groups

@@ -24,13 +24,13 @@ line indent text = indent ++ text ++ codes "\n"
 abbrev pub deeper : List ℕ → List ℕ
 deeper indent = indent ++ codes "  "
 
-abbrev pub behind_comma : CoreTree → List (List ℕ) → ExprTree → List ℕ
-behind_comma c names e = codes ", " ++ expr_text c.classes names e
+abbrev pub after_comma : CoreTree → List (List ℕ) → ExprTree → List ℕ
+after_comma c names e = codes ", " ++ expr_text c.classes names e
 
 -- expressions with commas between them
 abbrev pub args_text : CoreTree → List (List ℕ) → List ExprTree → List ℕ
 args_text c names [] = []
-args_text c names (e ∷ es) = expr_text c.classes names e ++ flat_map (behind_comma c names) es
+args_text c names (e ∷ es) = expr_text c.classes names e ++ flat_map (after_comma c names) es
 
 -- the local that keeps a result
 abbrev pub kept_text : List (List ℕ) → Option ℕ → List ℕ
@@ -44,10 +44,10 @@ callee_text c names (Static n) = title_of_body c.classes (slice_get c.bodies n)
 callee_text c names (Base n) = codes "base." ++ name_of_body (slice_get c.bodies n)
 callee_text c names (BaseConstructor n) = codes "base"
 
--- an expression behind a blank, where there is one
-abbrev pub behind_blank : CoreTree → List (List ℕ) → Option ExprTree → List ℕ
-behind_blank c names None = []
-behind_blank c names (Some e) = codes " " ++ expr_text c.classes names e
+-- an expression after a blank, where there is one
+abbrev pub after_blank : CoreTree → List (List ℕ) → Option ExprTree → List ℕ
+after_blank c names None = []
+after_blank c names (Some e) = codes " " ++ expr_text c.classes names e
 
 -- `Write` or `WriteLine`
 abbrev pub print_word : Bool → List ℕ
@@ -75,9 +75,9 @@ abbrev mutual
   stmt_text c names indent (PackStmt p x t) = line indent (codes "pack " ++ local_text names x ++ codes " as " ++ class_name c.classes t)
   stmt_text c names indent (AssertStmt p e) = line indent (codes "assert " ++ expr_text c.classes names e)
   stmt_text c names indent (AssumeStmt p e) = line indent (codes "assume " ++ expr_text c.classes names e)
-  stmt_text c names indent (PrintStmt p e newline) = line indent (print_word newline ++ behind_blank c names e)
+  stmt_text c names indent (PrintStmt p e newline) = line indent (print_word newline ++ after_blank c names e)
   stmt_text c names indent (PrintTextStmt p text newline) = line indent (print_word newline ++ codes " " ++ literal text)
-  stmt_text c names indent (ReturnStmt p e) = line indent (codes "return" ++ behind_blank c names e)
+  stmt_text c names indent (ReturnStmt p e) = line indent (codes "return" ++ after_blank c names e)
 
   pub code_text : CoreTree → List (List ℕ) → List ℕ → CodeTree → List ℕ
   code_text c names indent NoCode = []

@@ -6,8 +6,8 @@ ghost use Rattle.ss_report_core.specs.Exprs as texts;
 ghost use Rattle.ss_report_names.specs.Names.{class_name};
 ghost use Rattle.ss_report_names.specs.Tables as tables;
 ghost use Rattle.ss_report_names.specs.Contexts.{classes_of, names_in};
-ghost use Rattle.ss_report_core.specs.Behinds.{link_behind, step_behind, link_text, step_text, links_text, steps_text};
-ghost use Rattle.ss_report_core.specs.Behinds as behinds;
+ghost use Rattle.ss_report_core.specs.Afters.{link_after, step_after, link_text, step_text, links_text, steps_text};
+ghost use Rattle.ss_report_core.specs.Afters as afters;
 
 use crate::words::{bool_text, null_mark, operator_text, push_int, quantifier_text};
 use ss_core::{ClassId, Classes, Expr, Link, OwnerTest, Quantifier, StateWord, Step};
@@ -119,7 +119,7 @@ fn push_opened(
 
 #[cycle(expr)]
 fn push_links(out: &mut Vec<u8>, context: &Context<'_>, links: &[Link]) -> Result<(), AllocError>
-    ensures { OnOk result (out.new.items ≡ out.old.items ++ links_text (classes_of context.now.program.now) (names_in context.now) (map link_behind links.now)) }
+    ensures { OnOk result (out.new.items ≡ out.old.items ++ links_text (classes_of context.now.program.now) (names_in context.now) (map link_after links.now)) }
 {
     for link in links {
         push_link(out, context, link)?;
@@ -127,10 +127,10 @@ fn push_links(out: &mut Vec<u8>, context: &Context<'_>, links: &[Link]) -> Resul
     Ok(())
 }
 
-// What a link writes behind an operand.
+// What a link writes after an operand.
 #[cycle(expr)]
 fn push_link(out: &mut Vec<u8>, context: &Context<'_>, link: &Link) -> Result<(), AllocError>
-    ensures { OnOk result (out.new.items ≡ out.old.items ++ link_text (classes_of context.now.program.now) (names_in context.now) (link_behind link.now)) }
+    ensures { OnOk result (out.new.items ≡ out.old.items ++ link_text (classes_of context.now.program.now) (names_in context.now) (link_after link.now)) }
 {
     let classes = &context.program.whole.classes;
     match link {
@@ -144,7 +144,7 @@ fn push_link(out: &mut Vec<u8>, context: &Context<'_>, link: &Link) -> Result<()
 
 #[cycle(expr)]
 fn push_steps(out: &mut Vec<u8>, context: &Context<'_>, steps: &[Step]) -> Result<(), AllocError>
-    ensures { OnOk result (out.new.items ≡ out.old.items ++ steps_text (classes_of context.now.program.now) (names_in context.now) (map step_behind steps.now)) }
+    ensures { OnOk result (out.new.items ≡ out.old.items ++ steps_text (classes_of context.now.program.now) (names_in context.now) (map step_after steps.now)) }
 {
     for step in steps {
         push_step(out, context, step)?;
@@ -154,7 +154,7 @@ fn push_steps(out: &mut Vec<u8>, context: &Context<'_>, steps: &[Step]) -> Resul
 
 #[cycle(expr)]
 fn push_step(out: &mut Vec<u8>, context: &Context<'_>, step: &Step) -> Result<(), AllocError>
-    ensures { OnOk result (out.new.items ≡ out.old.items ++ step_text (classes_of context.now.program.now) (names_in context.now) (step_behind step.now)) }
+    ensures { OnOk result (out.new.items ≡ out.old.items ++ step_text (classes_of context.now.program.now) (names_in context.now) (step_after step.now)) }
 {
     match step {
         Step::Field(f) => push_both(out, b".", field_name(context.program, *f)),
@@ -193,7 +193,7 @@ fn push_low(
     push_between(out, context, b"", low, b": ")
 }
 
-// These names, and behind them one more.
+// These names, and after them one more.
 fn with_name<'a>(
     alloc: Global,
     bound: &[&'a str],
@@ -206,7 +206,7 @@ fn with_name<'a>(
     Ok(names)
 }
 
-// The member of a quantifier, in which the name is bound, with what stands before and behind it.
+// The member of a quantifier, in which the name is bound, with what stands before and after it.
 #[cycle(expr)]
 fn push_member(
     out: &mut Vec<u8>,
@@ -234,14 +234,14 @@ fn push_state(
     word: StateWord,
     e: &Expr,
 ) -> Result<(), AllocError>
-    ensures { OnOk result (out.new.items ≡ out.old.items ++ (behinds.word_before (view.word_tree word) ++ texts.expr_text (classes_of context.now.program.now) (names_in context.now) (view.expr e.now) ++ behinds.word_behind (classes_of context.now.program.now) (view.word_tree word))) }
+    ensures { OnOk result (out.new.items ≡ out.old.items ++ (afters.word_before (view.word_tree word) ++ texts.expr_text (classes_of context.now.program.now) (names_in context.now) (view.expr e.now) ++ afters.word_after (classes_of context.now.program.now) (view.word_tree word))) }
 {
     out.extend_from_slice(word_before(word))?;
     push_expr(out, context, e)?;
     push_word(out, &context.program.whole.classes, word)
 }
 
-// The second of two objects whose owners are compared, and what stands behind it.
+// The second of two objects whose owners are compared, and what stands after it.
 #[cycle(expr)]
 fn push_owned(
     out: &mut Vec<u8>,
@@ -249,7 +249,7 @@ fn push_owned(
     test: OwnerTest,
     e: &Expr,
 ) -> Result<(), AllocError>
-    ensures { OnOk result (out.new.items ≡ out.old.items ++ (texts.expr_text (classes_of context.now.program.now) (names_in context.now) (view.expr e.now) ++ behinds.owners_behind (classes_of context.now.program.now) (view.owners_tree test))) }
+    ensures { OnOk result (out.new.items ≡ out.old.items ++ (texts.expr_text (classes_of context.now.program.now) (names_in context.now) (view.expr e.now) ++ afters.owners_after (classes_of context.now.program.now) (view.owners_tree test))) }
 {
     push_expr(out, context, e)?;
     push_owners(out, &context.program.whole.classes, test)
@@ -257,7 +257,7 @@ fn push_owned(
 
 // What stands before the text of the object that is asked.
 fn word_before(word: StateWord) -> &'static [u8]
-    ensures { result.now ≡ behinds.word_before (view.word_tree word) }
+    ensures { result.now ≡ afters.word_before (view.word_tree word) }
 {
     match word {
         StateWord::Consistent => b"",
@@ -269,9 +269,9 @@ fn word_before(word: StateWord) -> &'static [u8]
     }
 }
 
-// What stands behind it.
+// What stands after it.
 fn push_word(out: &mut Vec<u8>, classes: &Classes, word: StateWord) -> Result<(), AllocError>
-    ensures { OnOk result (out.new.items ≡ out.old.items ++ behinds.word_behind (view.classes classes.now) (view.word_tree word)) }
+    ensures { OnOk result (out.new.items ≡ out.old.items ++ afters.word_after (view.classes classes.now) (view.word_tree word)) }
 {
     match word {
         StateWord::Consistent => out.extend_from_slice(b".IsConsistent"),
@@ -284,7 +284,7 @@ fn push_word(out: &mut Vec<u8>, classes: &Classes, word: StateWord) -> Result<()
 }
 
 fn owners_before(test: OwnerTest) -> &'static [u8]
-    ensures { result.now ≡ behinds.owners_before (view.owners_tree test) }
+    ensures { result.now ≡ afters.owners_before (view.owners_tree test) }
 {
     match test {
         OwnerTest::Same => b"Owner.Same(",
@@ -292,9 +292,9 @@ fn owners_before(test: OwnerTest) -> &'static [u8]
     }
 }
 
-// What stands behind two objects whose owners are compared.
+// What stands after two objects whose owners are compared.
 fn push_owners(out: &mut Vec<u8>, classes: &Classes, test: OwnerTest) -> Result<(), AllocError>
-    ensures { OnOk result (out.new.items ≡ out.old.items ++ behinds.owners_behind (view.classes classes.now) (view.owners_tree test)) }
+    ensures { OnOk result (out.new.items ≡ out.old.items ++ afters.owners_after (view.classes classes.now) (view.owners_tree test)) }
 {
     match test {
         OwnerTest::Same => out.extend_from_slice(b")"),

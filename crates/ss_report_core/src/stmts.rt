@@ -7,7 +7,7 @@ ghost use Rattle.ss_report_core.specs.Exprs.{expr_text};
 ghost use Rattle.ss_report_names.specs.Names as names;
 ghost use Rattle.ss_report_core.specs.Stmts as texts;
 ghost use Rattle.ss_report_names.specs.Contexts.{core_of, classes_of, names_in};
-ghost use Rattle.ss_report_core.specs.Behinds.{loop_of};
+ghost use Rattle.ss_report_core.specs.Afters.{loop_of};
 
 use crate::exprs::{push_between, push_expr};
 use crate::words::{print_word, push_literal};
@@ -40,13 +40,13 @@ fn push_worded(
     push_between(out, context, word, e, b"\n")
 }
 
-// An expression behind a blank, where there is one.
-fn push_behind_blank(
+// An expression after a blank, where there is one.
+fn push_after_blank(
     out: &mut Vec<u8>,
     context: &Context<'_>,
     e: &Option<Expr>,
 ) -> Result<(), AllocError>
-    ensures { OnOk result (out.new.items ≡ out.old.items ++ texts.behind_blank (core_of context.now.program.now) (names_in context.now) (option_map view.expr e.now)) }
+    ensures { OnOk result (out.new.items ≡ out.old.items ++ texts.after_blank (core_of context.now.program.now) (names_in context.now) (option_map view.expr e.now)) }
 {
     match e {
         None => Ok(()),
@@ -57,9 +57,9 @@ fn push_behind_blank(
     }
 }
 
-// Expressions, each behind a comma.
+// Expressions, each after a comma.
 fn push_more_args(out: &mut Vec<u8>, context: &Context<'_>, args: &[Expr]) -> Result<(), AllocError>
-    ensures { OnOk result (out.new.items ≡ out.old.items ++ flat_map (texts.behind_comma (core_of context.now.program.now) (names_in context.now)) (map view.expr args.now)) }
+    ensures { OnOk result (out.new.items ≡ out.old.items ++ flat_map (texts.after_comma (core_of context.now.program.now) (names_in context.now)) (map view.expr args.now)) }
 {
     for arg in args {
         out.extend_from_slice(b", ")?;
@@ -271,10 +271,10 @@ fn push_optional(
     word: &[u8],
     e: &Option<Expr>,
 ) -> Result<(), AllocError>
-    ensures { OnOk result (out.new.items ≡ out.old.items ++ texts.line indent.now (word.now ++ texts.behind_blank (core_of context.now.program.now) (names_in context.now) (option_map view.expr e.now))) }
+    ensures { OnOk result (out.new.items ≡ out.old.items ++ texts.line indent.now (word.now ++ texts.after_blank (core_of context.now.program.now) (names_in context.now) (option_map view.expr e.now))) }
 {
     push_both(out, indent, word)?;
-    push_behind_blank(out, context, e)?;
+    push_after_blank(out, context, e)?;
     out.extend_from_slice(b"\n")
 }
 

@@ -44,7 +44,7 @@ pub(crate) fn quantifier_text(quantifier: Quantifier) -> &'static [u8]
     }
 }
 
-/// An exclamation mark behind a class that null doesn't pass.
+/// An exclamation mark after a class that null doesn't pass.
 pub(crate) fn null_mark(non_null: bool) -> &'static [u8]
     ensures { result.now ≡ exprs.null_mark non_null }
 {
@@ -64,7 +64,7 @@ pub(crate) fn push_int(alloc: Global, out: &mut Vec<u8>, n: i32) -> Result<(), A
     out.extend_from_slice(text.as_bytes())
 }
 
-// A byte of a string, where it is escaped behind a backslash.
+// A byte of a string, where it is escaped after a backslash.
 fn push_escaped(out: &mut Vec<u8>, byte: u8) -> Result<(), AllocError>
     ensures { OnOk result (out.new.items ≡ out.old.items ++ stmts.escaped byte) }
 {

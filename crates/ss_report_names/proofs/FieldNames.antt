@@ -9,13 +9,13 @@ use Rattle.ss_report_names.specs.Tables.{field_names}
 abbrev declared_field_name : DeclaredField → List ℕ
 declared_field_name d = d.field.name
 
-names_behind : (t : ℕ) (fs : List FieldTree) (ds : List DeclaredField) → map declared_field_name (fields_of_class t fs ++ ds) ≡ map (λ f. f.name) fs ++ map declared_field_name ds
-names_behind t [] ds = refl
-names_behind t (f ∷ fs) ds = ap (λ ns. f.name ∷ ns) (names_behind t fs ds)
+names_after : (t : ℕ) (fs : List FieldTree) (ds : List DeclaredField) → map declared_field_name (fields_of_class t fs ++ ds) ≡ map (λ f. f.name) fs ++ map declared_field_name ds
+names_after t [] ds = refl
+names_after t (f ∷ fs) ds = ap (λ ns. f.name ∷ ns) (names_after t fs ds)
 
 names_from : (t : ℕ) (cs : List ClassTree) → map declared_field_name (fields_from t cs) ≡ field_names cs
 names_from t [] = refl
-names_from t (c ∷ cs) = names_behind t c.fields (fields_from (t + 2) cs) ∙ ap (λ ns. map (λ f. f.name) c.fields ++ ns) (names_from (t + 2) cs)
+names_from t (c ∷ cs) = names_after t c.fields (fields_from (t + 2) cs) ∙ ap (λ ns. map (λ f. f.name) c.fields ++ ns) (names_from (t + 2) cs)
 
 name_found : (ds : List DeclaredField) (f : ℕ) → or_nothing (slice_get (map declared_field_name ds) f) ≡ name_of_field (slice_get ds f)
 name_found [] f = refl

@@ -1,4 +1,4 @@
--- The texts of a body's own locals, and of bound names behind them.
+-- The texts of a body's own locals, and of bound names after them.
 use Rattle.std.proofs.Common.{◌≡◌, ℕ, zero, suc, ◌+◌, ◌<◌, ◌≤◌, List, [], ◌∷◌, ◌++◌, map, length, take, refl, ap, sym, ◌∙◌, append_assoc, arith, None, subst, Bor, String, Global, string_bytes, bytes_eq, codes, decimal, Bool, true, false, if◌then◌else◌, Result, OnOk, option_map}
 use Rattle.std.proofs.lemmas.List.{append-nil, length-map, length-append}
 use Rattle.std.specs.List.{slice_get, list_any}
@@ -7,9 +7,9 @@ use Rattle.ss_report_names.specs.Names.{is_among, marked, texts_from, or_nothing
 use Rattle.ss_report_names.specs.Tables.{texts}
 use Rattle.ss_report_names.proofs.LocalTexts.{texts_from-append, length-texts_from, is_among-append}
 
-behind_front : (xs ys : List (List ℕ)) (k : ℕ) → slice_get (xs ++ ys) (length xs + k) ≡ slice_get ys k
-behind_front [] ys k = ap (λ n. slice_get ys n) (omega arith)
-behind_front (x ∷ xs) ys k = let e : length (x ∷ xs) + k ≡ suc (length xs + k) = omega arith in ap (λ n. slice_get (x ∷ (xs ++ ys)) n) e ∙ behind_front xs ys k
+after_front : (xs ys : List (List ℕ)) (k : ℕ) → slice_get (xs ++ ys) (length xs + k) ≡ slice_get ys k
+after_front [] ys k = ap (λ n. slice_get ys n) (omega arith)
+after_front (x ∷ xs) ys k = let e : length (x ∷ xs) + k ≡ suc (length xs + k) = omega arith in ap (λ n. slice_get (x ∷ (xs ++ ys)) n) e ∙ after_front xs ys k
 
 in_front : (xs ys : List (List ℕ)) (k : ℕ) → k < length xs → slice_get (xs ++ ys) k ≡ slice_get xs k
 in_front [] ys k h = absurd (omega arith)
@@ -36,22 +36,22 @@ none_at earlier [] k h = refl
 none_at earlier (b ∷ bs) zero h = absurd (omega arith)
 none_at earlier (b ∷ bs) (suc k) h = none_at (earlier ++ b ∷ []) bs k (omega arith)
 
-behind_locals : (ls bs : List (List ℕ)) (k : ℕ) → slice_get (texts_from [] (ls ++ bs)) (length ls + k) ≡ slice_get (texts_from ls bs) k
-behind_locals ls bs k =
+after_locals : (ls bs : List (List ℕ)) (k : ℕ) → slice_get (texts_from [] (ls ++ bs)) (length ls + k) ≡ slice_get (texts_from ls bs) k
+after_locals ls bs k =
     ap (λ ts. slice_get ts (length ls + k)) (texts_from-append [] ls bs)
     ∙ ap (λ n. slice_get (texts_from [] ls ++ texts_from ls bs) (n + k)) (sym (length-texts_from [] ls))
-    ∙ behind_front (texts_from [] ls) (texts_from ls bs) k
+    ∙ after_front (texts_from [] ls) (texts_from ls bs) k
 
 -- a bound name
 pub bound_text : (ls bs : List (List ℕ)) (k x : ℕ) → x ≡ length ls + k → k < length bs → local_text (ls ++ bs) x ≡ marked (ls ++ take k bs) (or_nothing (slice_get bs k))
-bound_text ls bs k x e h = ap (λ n. local_text (ls ++ bs) n) e ∙ ap or_nothing (behind_locals ls bs k) ∙ text_at ls bs k h
+bound_text ls bs k x e h = ap (λ n. local_text (ls ++ bs) n) e ∙ ap or_nothing (after_locals ls bs k) ∙ text_at ls bs k h
 
 pub length_front : (ls bs : List (List ℕ)) (k : ℕ) → k < length bs → length (ls ++ take k bs) ≡ length ls + k
 length_front ls bs k h = length-append ls (take k bs) ∙ ap (λ n. length ls + n) (taken_length bs k h)
 
 -- a number past the last one
 pub past_text : (ls bs : List (List ℕ)) (k x : ℕ) → x ≡ length ls + k → length bs ≤ k → local_text (ls ++ bs) x ≡ []
-past_text ls bs k x e h = ap (λ n. local_text (ls ++ bs) n) e ∙ ap or_nothing (behind_locals ls bs k ∙ none_at ls bs k h)
+past_text ls bs k x e h = ap (λ n. local_text (ls ++ bs) n) e ∙ ap or_nothing (after_locals ls bs k ∙ none_at ls bs k h)
 
 -- a local of the body
 pub own_text : (ls bs : List (List ℕ)) (x : ℕ) → x < length ls → local_text (ls ++ bs) x ≡ local_text ls x

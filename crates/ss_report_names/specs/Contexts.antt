@@ -13,6 +13,6 @@ core_of p = view.core p.whole.now
 abbrev pub classes_of : Program → List ClassTree
 classes_of p = view.classes p.whole.now.classes
 
--- the names of the locals, and behind them the bound ones
+-- the names of the locals, and after them the bound ones
 abbrev pub names_in : Context → List (List ℕ)
 names_in s = local_names (view.body s.locals.now.body.now) ++ texts s.bound.now

@@ -1,4 +1,4 @@
-// Texts behind one another.
+// Texts after one another.
 
 ghost use Rattle.std.specs.Prelude.{◌≡◌, ◌++◌, OnOk};
 ghost use Rattle.ss_core.specs.View as view;

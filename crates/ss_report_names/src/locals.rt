@@ -47,7 +47,7 @@ impl<'a> Table<'a> {
         }
     }
 
-    /// One more name behind the others.
+    /// One more name after the others.
     pub(crate) fn add(&mut self, alloc: Global, name: &'a str) -> Result<(), AllocError>
         ensures { (earlier : List (List ℕ)) → IsTable earlier self.old → OnOk result (IsTable (earlier ++ name.now ∷ []) self.new) }
     {
@@ -58,7 +58,7 @@ impl<'a> Table<'a> {
         Ok(())
     }
 
-    /// The names of these locals behind the others.
+    /// The names of these locals after the others.
     pub(crate) fn add_all(&mut self, alloc: Global, locals: &'a [Local]) -> Result<(), AllocError>
         ensures { (earlier : List (List ℕ)) → IsTable earlier self.old → OnOk result (IsTable (earlier ++ names.names_of (map local_of locals.now)) self.new) }
     {

@@ -100,7 +100,7 @@ module _ (b : Forms) (x : Term) where
   place_opened : (ts : List TermId) (i : ℕ) (d : TermId) → i < length ts → Place (drop i ts) ≡ (if same_term x (term_at b (get_or ts i d)) then 0 else suc (Place (drop (i + 1) ts)))
   place_opened ts i d h = ap Place (drop_more ts i d h)
 
-  -- the term at the place stands there, and else it stands behind it
+  -- the term at the place stands there, and else it stands after it
   place_here : (ts : List TermId) (i : ℕ) (d : TermId) (v : Bool) (old new : Option ℕ) → i < length ts → v ≡ same_term x (term_at b (get_or ts i d)) → new ≡ cond v (Some i) old → unwrap_or old (length ts) ≡ (i + 1) + Place (drop (i + 1) ts) → unwrap_or new (length ts) ≡ i + Place (drop i ts)
   place_here ts i d true old new h is e known =
       let p : Place (drop i ts) ≡ 0 = place_opened ts i d h ∙ ap (λ s. if s then 0 else suc (Place (drop (i + 1) ts))) (sym is) in

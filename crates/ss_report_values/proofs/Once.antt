@@ -8,7 +8,7 @@ use Rattle.ss_logic.specs.Formulas.{Formula, Literal, And, Or, Forall, Exists}
 use Rattle.ss_logic.specs.Equal.{same_term, equal_terms, same_term_equal}
 use Rattle.ss_logic.specs.Occurring.{with_term, with_arguments, with_terms_of, with_terms_of_all, atoms, terms}
 
--- no term stands among those behind it
+-- no term stands among those after it
 abbrev pub Once : List Term → Type 0
 Once [] = Unit {0}
 Once (t ∷ ts) = (list_any (same_term t) ts ≡ false) × Once ts

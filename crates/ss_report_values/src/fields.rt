@@ -209,7 +209,7 @@ impl Fields {
         Fields::new(alloc, found)
     }
 
-    /// Those of the objects of this class, and behind them those of others.
+    /// Those of the objects of this class, and after them those of others.
     pub(crate) fn of(&self, object: usize) -> &[FieldValue] {
         match self.first.get(&object) {
             Some(place) => self.list.get(*place..).unwrap_or(&[]),

@@ -47,7 +47,7 @@ impl Places {
         Ok(places)
     }
 
-    // The term at this place stands there first, whatever is known of those behind it.
+    // The term at this place stands there first, whatever is known of those after it.
     fn put(&mut self, bank: &Bank, terms: &[TermId], i: usize) -> Result<(), AllocError>
         requires terms { HasTerms bank.now terms.now }
         requires place { i < length terms.now }
@@ -89,7 +89,7 @@ impl Values {
         Ok(values)
     }
 
-    // A literal at this place is the first of its class, whatever is known of those behind it.
+    // A literal at this place is the first of its class, whatever is known of those after it.
     fn put(&mut self, bank: &Bank, reading: &Reading<'_>, i: usize) -> Result<(), AllocError>
         requires terms { HasTerms bank.now reading.now.terms.now }
         requires place { i < length reading.now.terms.now }

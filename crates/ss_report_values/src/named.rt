@@ -22,7 +22,7 @@ pub(crate) struct Named<'a> {
 }
 
 impl Named<'_> {
-    /// Whether the name is that of a local of the program, and no other behind it has it, as the copy of a parameter does.
+    /// Whether the name is that of a local of the program, and no other after it has it, as the copy of a parameter does.
     pub(crate) fn is_told(&self, others: &[Named<'_>]) -> bool {
         for other in others {
             if other.name == self.name {
@@ -84,7 +84,7 @@ fn is_temporary(alloc: Global, local: &Local, number: usize) -> Result<bool, All
     Ok(local.name.as_str() == name.as_str())
 }
 
-// How many temporaries stand behind the locals of the program.
+// How many temporaries stand after the locals of the program.
 fn temporary_count(alloc: Global, locals: &[Local]) -> Result<usize, AllocError> {
     let mut count = 0;
     for local in locals {

@@ -29,7 +29,7 @@ impl Telling {
         self.count > MOST_VALUES
     }
 
-    /// Tells a value under a name, or that of a field behind a name.
+    /// Tells a value under a name, or that of a field after a name.
     pub(crate) fn tell(
         &mut self,
         name: &str,

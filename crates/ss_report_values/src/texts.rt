@@ -132,7 +132,7 @@ impl Telling {
         }
     }
 
-    // Tells the fields of the objects of a class, each once; those of others may stand behind them.
+    // Tells the fields of the objects of a class, each once; those of others may stand after them.
     fn tell_fields(
         &mut self,
         classes: &Classes,
@@ -223,7 +223,7 @@ fn told(
 }
 
 /// The values that a model gives at a position, as `x = 3, b = True, p = null, this.n = 5`. They are those of locals for whose terms a
-/// literal stands in the class, and behind them those of fields. A field is told where a term reads it of an equal object in an equal
+/// literal stands in the class, and after them those of fields. A field is told where a term reads it of an equal object in an equal
 /// store, and a literal stands in that term's class. An error is want of memory.
 pub fn values_text(
     alloc: Global,

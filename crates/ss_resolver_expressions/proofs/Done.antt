@@ -14,7 +14,7 @@ use Rattle.ss_resolver_rules.specs.Names.{Env}
 use Rattle.ss_resolver_rules.specs.Numbers.{class_id, written_class, array_class}
 use Rattle.ss_resolver_rules.specs.Expressions.{expr, call}
 use Rattle.ss_resolver_expressions.specs.Environments.{Part, AnOther, part, part_value, part_type, part_callee, part_called}
-use Rattle.ss_resolver_expressions.specs.LocalContext.{LocalContext, within_member, behind_member}
+use Rattle.ss_resolver_expressions.specs.LocalContext.{LocalContext, within_member, after_member}
 use Rattle.ss_resolver_expressions.proofs.PartIs.{value_is, type_is, callee_is, called_is, args_are, count_is}
 
 read : (e : Env) (t : text.ExprTree) (x : Part) (left : ExprTree) → x ≡ part e t → left ≡ part_value e x → left ≡ expr e t
@@ -88,5 +88,5 @@ call_done e p t es x given whole n y h g w many z =
     ∙ ap (λ y. AnOther y (expr e (text.CallOf p t (arguments es)))) (z ∙ ap (λ k. call_type e.scope.classes (called_with k (part_callee e x))) (many ∙ ap length g ∙ count_is e es)
     ∙ ap (λ x. call_type e.scope.classes (called_with (count (arguments es)) (part_callee e x))) h ∙ ap (λ c. call_type e.scope.classes (called_with (count (arguments es)) c)) (callee_is e t))
 
-pub member_left : (a : LocalContext) (n : List ℕ) → behind_member (within_member a n) ≡ a
+pub member_left : (a : LocalContext) (n : List ℕ) → after_member (within_member a n) ≡ a
 member_left a n = let e : a.bound + 1 - 1 ≡ a.bound = omega arith in ap (λ b. record a { bound = b }) e

@@ -1,4 +1,4 @@
--- Facts of the code's walk over an expression, joined. What is known at a place is the same before and behind each part.
+-- Facts of the code's walk over an expression, joined. What is known at a place is the same before and after each part.
 use Rattle.std.proofs.Common.{ℕ, ◌≡◌, ◌<◌, ◌≤◌, ◌+◌, ◌++◌, length, take, drop, get_or, map, List, [], ◌∷◌, Option, Some, Vec, Box, Global, refl, sym, ap, subst, ◌∙◌}
 use Rattle.ss_core.specs.declared.names.Place.{Place}
 use Rattle.ss_core.specs.declared.names.Ty.{Ty}
@@ -22,8 +22,8 @@ use Rattle.ss_typed.specs.Tree as typed
 use Rattle.ss_resolver_rules.specs.Names.{within}
 use Rattle.ss_resolver_rules.specs.Expressions.{expr, class_named_by}
 use Rattle.ss_resolver_expressions.specs.declared.context.ResolutionContext.{ResolutionContext}
-use Rattle.ss_resolver_expressions.specs.LocalContext.{LocalContext, within_member, behind_member}
-use Rattle.ss_ast.specs.Parts.{link_behind, postfix_behind}
+use Rattle.ss_resolver_expressions.specs.LocalContext.{LocalContext, within_member, after_member}
+use Rattle.ss_ast.specs.Parts.{link_after, postfix_after}
 use Rattle.ss_resolver_expressions.specs.Environments.{Part, AnOther, env_of, part, part_value}
 use Rattle.ss_resolver_expressions.proofs.PartIs.{value_is}
 use Rattle.ss_ast.proofs.Grouping.{grouped_more}
@@ -57,24 +57,24 @@ result_walked s n p e y is whole = whole n ∙ ap (part (env_of s n)) (sym (ap e
 
 pub chain_walked : (s : ResolutionContext) (n m : LocalContext) (p : Place) (first : Box Expr Global) (links : Vec Link Global) (e f : Expr) (ls : List Link) (x y : Part)
     → e ≡ view.Chain p first links → f ≡ first.value → ls ≡ links.items → m ≡ n → x ≡ part (env_of s n) (expr_tree f)
-    → ((t : text.ExprTree) → x ≡ part (env_of s m) t → y ≡ part (env_of s m) (grouped p t (map link_behind ls)))
+    → ((t : text.ExprTree) → x ≡ part (env_of s m) t → y ≡ part (env_of s m) (grouped p t (map link_after ls)))
     → y ≡ part (env_of s n) (expr_tree e)
 chain_walked s n m p first links e f ls x y is f_is ls_is same h longer =
-    let whole : expr_tree e ≡ grouped p (expr_tree f) (map link_behind ls) =
+    let whole : expr_tree e ≡ grouped p (expr_tree f) (map link_after ls) =
     ap expr_tree is ∙ shapes.chain_is p first links
-    ∙ ap (λ (v : Expr). grouped p (expr_tree v) (map link_behind links.items)) (sym f_is)
-    ∙ ap (λ (xs : List Link). grouped p (expr_tree f) (map link_behind xs)) (sym ls_is) in
+    ∙ ap (λ (v : Expr). grouped p (expr_tree v) (map link_after links.items)) (sym f_is)
+    ∙ ap (λ (xs : List Link). grouped p (expr_tree f) (map link_after xs)) (sym ls_is) in
     here s n m y _ (expr_tree e) same whole (longer (expr_tree f) (back s n m x (expr_tree f) same h))
 
 pub path_walked : (s : ResolutionContext) (n m : LocalContext) (p : Place) (first : Box Expr Global) (postfixes : Vec Postfix Global) (e f : Expr) (ls : List Postfix) (x y : Part)
     → e ≡ view.Path p first postfixes → f ≡ first.value → ls ≡ postfixes.items → m ≡ n → x ≡ part (env_of s n) (expr_tree f)
-    → ((t : text.ExprTree) → x ≡ part (env_of s m) t → y ≡ part (env_of s m) (grouped p t (map postfix_behind ls)))
+    → ((t : text.ExprTree) → x ≡ part (env_of s m) t → y ≡ part (env_of s m) (grouped p t (map postfix_after ls)))
     → y ≡ part (env_of s n) (expr_tree e)
 path_walked s n m p first postfixes e f ls x y is f_is ls_is same h longer =
-    let whole : expr_tree e ≡ grouped p (expr_tree f) (map postfix_behind ls) =
+    let whole : expr_tree e ≡ grouped p (expr_tree f) (map postfix_after ls) =
     ap expr_tree is ∙ shapes.path_is p first postfixes
-    ∙ ap (λ (v : Expr). grouped p (expr_tree v) (map postfix_behind postfixes.items)) (sym f_is)
-    ∙ ap (λ (xs : List Postfix). grouped p (expr_tree f) (map postfix_behind xs)) (sym ls_is) in
+    ∙ ap (λ (v : Expr). grouped p (expr_tree v) (map postfix_after postfixes.items)) (sym f_is)
+    ∙ ap (λ (xs : List Postfix). grouped p (expr_tree f) (map postfix_after xs)) (sym ls_is) in
     here s n m y _ (expr_tree e) same whole (longer (expr_tree f) (back s n m x (expr_tree f) same h))
 
 pub paren_walked : (s : ResolutionContext) (n m : LocalContext) (p : Place) (f : Expr) (x y : Part) → m ≡ n → x ≡ part (env_of s n) (expr_tree f)
@@ -178,10 +178,10 @@ pub member_resolved : (s : ResolutionContext) (n m : LocalContext) (name : Name)
     → letters ≡ (name_tree name).text → m ≡ within_member n letters → y ≡ expr (env_of s m) (expr_tree e) → y ≡ expr (within (env_of s n) (name_tree name)) (expr_tree e)
 member_resolved s n m name letters e y is entered h = h ∙ ap (λ k. expr (env_of s k) (expr_tree e)) (entered ∙ ap (within_member n) is)
 
-pub member_kept : (n m k j : LocalContext) (letters : List ℕ) → m ≡ within_member n letters → k ≡ m → j ≡ behind_member k → j ≡ n
-member_kept n m k j letters entered same done = done ∙ ap behind_member (same ∙ entered) ∙ member_left n letters
+pub member_kept : (n m k j : LocalContext) (letters : List ℕ) → m ≡ within_member n letters → k ≡ m → j ≡ after_member k → j ≡ n
+member_kept n m k j letters entered same done = done ∙ ap after_member (same ∙ entered) ∙ member_left n letters
 
--- ---- what stands behind
+-- ---- what stands after
 
 -- a link, which gives what it makes a type
 linked : (s : ResolutionContext) (n : LocalContext) (u v : text.ExprTree) (y : typed.ExprTree) (k : Option Ty) → u ≡ v → AnOther (static (env_of s n).scope v) (expr (env_of s n) v) ≡ part (env_of s n) v
@@ -192,47 +192,47 @@ linked s n u v y k is other known made =
 pub operation_walked : (s : ResolutionContext) (n m : LocalContext) (p : Place) (o : Operator) (b : Expr) (l : Link) (right y : typed.ExprTree) (x : Part) (k : Option Ty) (t : text.ExprTree)
     → l ≡ link.Operation o b → m ≡ n → right ≡ expr (env_of s n) (expr_tree b)
     → ((t u : text.ExprTree) → x ≡ part (env_of s m) t → right ≡ expr (env_of s m) u → y ≡ expr (env_of s m) (text.BinaryOf p o t u))
-    → k ≡ static (env_of s n).scope (link_behind l p t) → x ≡ part (env_of s n) t → AnOther k y ≡ part (env_of s n) (link_behind l p t)
+    → k ≡ static (env_of s n).scope (link_after l p t) → x ≡ part (env_of s n) t → AnOther k y ≡ part (env_of s n) (link_after l p t)
 operation_walked s n m p o b l right y x k t is same r whole known h =
     let made = whole t (expr_tree b) (back s n m x t same h) (back_tree s n m right (expr_tree b) same r) in
-    linked s n (link_behind l p t) (text.BinaryOf p o t (expr_tree b)) y k (ap (λ (l : Link). link_behind l p t) is ∙ shapes.operation_is o b p t) refl known
+    linked s n (link_after l p t) (text.BinaryOf p o t (expr_tree b)) y k (ap (λ (l : Link). link_after l p t) is ∙ shapes.operation_is o b p t) refl known
     (here_tree s n m y (text.BinaryOf p o t (expr_tree b)) same made)
 
 pub is_walked : (s : ResolutionContext) (n : LocalContext) (p : Place) (c : TypeRef) (l : Link) (y : typed.ExprTree) (k : Option Ty) (t : text.ExprTree)
-    → l ≡ link.Is c → k ≡ static (env_of s n).scope (link_behind l p t) → y ≡ expr (env_of s n) (text.IsOf p t (type_tree c)) → AnOther k y ≡ part (env_of s n) (link_behind l p t)
+    → l ≡ link.Is c → k ≡ static (env_of s n).scope (link_after l p t) → y ≡ expr (env_of s n) (text.IsOf p t (type_tree c)) → AnOther k y ≡ part (env_of s n) (link_after l p t)
 is_walked s n p c l y k t is known made =
-    linked s n (link_behind l p t) (text.IsOf p t (type_tree c)) y k (ap (λ (l : Link). link_behind l p t) is ∙ shapes.is_is c p t) refl known made
+    linked s n (link_after l p t) (text.IsOf p t (type_tree c)) y k (ap (λ (l : Link). link_after l p t) is ∙ shapes.is_is c p t) refl known made
 
 pub as_walked : (s : ResolutionContext) (n : LocalContext) (p : Place) (c : TypeRef) (l : Link) (y : typed.ExprTree) (k : Option Ty) (t : text.ExprTree)
-    → l ≡ link.As c → k ≡ static (env_of s n).scope (link_behind l p t) → y ≡ expr (env_of s n) (text.AsOf p t (type_tree c)) → AnOther k y ≡ part (env_of s n) (link_behind l p t)
+    → l ≡ link.As c → k ≡ static (env_of s n).scope (link_after l p t) → y ≡ expr (env_of s n) (text.AsOf p t (type_tree c)) → AnOther k y ≡ part (env_of s n) (link_after l p t)
 as_walked s n p c l y k t is known made =
-    linked s n (link_behind l p t) (text.AsOf p t (type_tree c)) y k (ap (λ (l : Link). link_behind l p t) is ∙ shapes.as_is c p t) refl known made
+    linked s n (link_after l p t) (text.AsOf p t (type_tree c)) y k (ap (λ (l : Link). link_after l p t) is ∙ shapes.as_is c p t) refl known made
 
 pub member_walked : (s : ResolutionContext) (n : LocalContext) (p : Place) (name : Name) (l : Postfix) (y : Part) (t : text.ExprTree)
-    → l ≡ postfix.Member name → y ≡ part (env_of s n) (text.MemberOf p t (name_tree name)) → y ≡ part (env_of s n) (postfix_behind l p t)
-member_walked s n p name l y t is h = h ∙ ap (part (env_of s n)) (sym (ap (λ (l : Postfix). postfix_behind l p t) is ∙ shapes.member_is name p t))
+    → l ≡ postfix.Member name → y ≡ part (env_of s n) (text.MemberOf p t (name_tree name)) → y ≡ part (env_of s n) (postfix_after l p t)
+member_walked s n p name l y t is h = h ∙ ap (part (env_of s n)) (sym (ap (λ (l : Postfix). postfix_after l p t) is ∙ shapes.member_is name p t))
 
 pub element_walked : (s : ResolutionContext) (n m : LocalContext) (p : Place) (b : Expr) (l : Postfix) (index : typed.ExprTree) (x y : Part) (t : text.ExprTree)
     → l ≡ postfix.Element b → m ≡ n → index ≡ expr (env_of s n) (expr_tree b)
     → ((t u : text.ExprTree) → x ≡ part (env_of s m) t → index ≡ expr (env_of s m) u → y ≡ part (env_of s m) (text.ElementOf p t u))
-    → x ≡ part (env_of s n) t → y ≡ part (env_of s n) (postfix_behind l p t)
+    → x ≡ part (env_of s n) t → y ≡ part (env_of s n) (postfix_after l p t)
 element_walked s n m p b l index x y t is same r whole h =
-    here s n m y (text.ElementOf p t (expr_tree b)) (postfix_behind l p t) same (ap (λ (l : Postfix). postfix_behind l p t) is ∙ shapes.element_is b p t)
+    here s n m y (text.ElementOf p t (expr_tree b)) (postfix_after l p t) same (ap (λ (l : Postfix). postfix_after l p t) is ∙ shapes.element_is b p t)
     (whole t (expr_tree b) (back s n m x t same h) (back_tree s n m index (expr_tree b) same r))
 
 pub call_walked : (s : ResolutionContext) (n m : LocalContext) (p : Place) (es : Vec Expr Global) (fs : List Expr) (l : Postfix) (values : List typed.ExprTree) (classes : List ℕ) (x y : Part) (t : text.ExprTree)
     → l ≡ postfix.Call es → fs ≡ es.items → m ≡ n → values ≡ map (expr (env_of s n)) (map expr_tree fs) → classes ≡ map (class_named_by (env_of s n)) (map expr_tree fs)
     → ((t : text.ExprTree) → (ts : List text.ExprTree) → x ≡ part (env_of s m) t → values ≡ map (expr (env_of s m)) ts → classes ≡ map (class_named_by (env_of s m)) ts → y ≡ part (env_of s m) (text.CallOf p t (arguments ts)))
-    → x ≡ part (env_of s n) t → y ≡ part (env_of s n) (postfix_behind l p t)
+    → x ≡ part (env_of s n) t → y ≡ part (env_of s n) (postfix_after l p t)
 call_walked s n m p es fs l values classes x y t is fs_is same v c whole h =
     let ts = map expr_tree fs in
-    here s n m y (text.CallOf p t (arguments ts)) (postfix_behind l p t) same
-    (ap (λ (l : Postfix). postfix_behind l p t) is ∙ shapes.call_is es p t ∙ ap (λ (xs : List Expr). text.CallOf p t (arguments (map expr_tree xs))) (sym fs_is))
+    here s n m y (text.CallOf p t (arguments ts)) (postfix_after l p t) same
+    (ap (λ (l : Postfix). postfix_after l p t) is ∙ shapes.call_is es p t ∙ ap (λ (xs : List Expr). text.CallOf p t (arguments (map expr_tree xs))) (sym fs_is))
     (whole t ts (back s n m x t same h) (v ∙ ap (λ k. map (expr (env_of s k)) ts) (sym same)) (c ∙ ap (λ k. map (class_named_by (env_of s k)) ts) (sym same)))
 
 -- ---- loops
 
--- one more part behind those that a loop has gone over
+-- one more part after those that a loop has gone over
 pub one_more_part : {X : Type 0} (behind : X → Behind) (s : ResolutionContext) (n m : LocalContext) (p : Place) (xs : List X) (i : ℕ) (item : X) (first x y : Part)
     → m ≡ n → i < length xs → item ≡ get_or xs i item
     → ((t : text.ExprTree) → x ≡ part (env_of s m) t → y ≡ part (env_of s m) (behind item p t))

@@ -15,7 +15,7 @@ use Rattle.ss_typed.specs.View as view
 use Rattle.ss_resolver_rules.specs.Names.{Env}
 use Rattle.ss_resolver_expressions.specs.LocalContext.{LocalContext}
 use Rattle.ss_resolver_rules.specs.Numbers.{class_id, class_in}
-use Rattle.ss_resolver_rules.specs.Expressions.{expr, this, bare_name, member, called_bare, called_behind}
+use Rattle.ss_resolver_rules.specs.Expressions.{expr, this, bare_name, member, called_bare, called_after}
 use Rattle.ss_resolver_expressions.specs.declared.context.ResolutionContext.{ResolutionContext}
 use Rattle.ss_resolver_expressions.specs.declared.parts.Part.{Part as CodePart}
 use Rattle.ss_resolver_expressions.specs.declared.parts.Part.TheVariants as code
@@ -28,12 +28,12 @@ env_of s a = record { scope = scope_of s.within a.names; inner = a.numbered.inne
 abbrev pub given : List TypedExpr → typed.Arguments
 given es = typed.arguments (view.exprs es)
 
--- An expression before what may stand behind it.
+-- An expression before what may stand after it.
 pub data Part : Type 0 where
   ABareName : Place → List ℕ → Part
   -- the word `base`
   ABaseWord : Place → Part
-  -- a member behind a dot: what stands before it, with its static type and its tree
+  -- a member after a dot: what stands before it, with its static type and its tree
   AMember : Place → Receiver → Option Ty → ExprTree → List ℕ → Part
   -- any other, with its static type and its tree
   AnOther : Option Ty → ExprTree → Part
@@ -72,7 +72,7 @@ part_callee e (AnOther t x) = NoCallee
 abbrev pub part_called : Env → Place → text.Arguments → typed.Arguments → Part → ExprTree
 part_called e p es args (ABareName q n) = called_bare e p q args (name_callee e.scope n)
 part_called e p es args (ABaseWord q) = NullOf p
-part_called e p es args (AMember q r t o n) = called_behind e p r o n es args (member_callee e.scope n r)
+part_called e p es args (AMember q r t o n) = called_after e p r o n es args (member_callee e.scope n r)
 part_called e p es args (AnOther t x) = NullOf p
 
 abbrev pub part_view : CodePart → Part

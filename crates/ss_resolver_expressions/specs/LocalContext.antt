@@ -42,9 +42,9 @@ within_member a n = record {
   bound = a.bound + 1;
 }
 
--- behind it
-abbrev pub behind_member : LocalContext → LocalContext
-behind_member a = record { names = scoped.left a.names; numbered = scoped.left a.numbered; next = a.next; bound = a.bound - 1 }
+-- after it
+abbrev pub after_member : LocalContext → LocalContext
+after_member a = record { names = scoped.left a.names; numbered = scoped.left a.numbered; next = a.next; bound = a.bound - 1 }
 
 -- this many more locals, in scopes of their own
 abbrev pub past : LocalContext → ℕ → LocalContext

@@ -8,7 +8,7 @@ ghost use Rattle.ss_typed.specs.Tree.{ThisOf};
 ghost use Rattle.ss_typed.specs.View as view;
 ghost use Rattle.ss_resolver_expressions.specs.LocalContext.{LocalContext};
 ghost use Rattle.ss_resolver_expressions.specs.Environments.{env_of};
-ghost use Rattle.ss_resolver_rules.specs.Expressions.{read_field, known_or_field, bare_name, field_behind, state_word, state_question, member};
+ghost use Rattle.ss_resolver_rules.specs.Expressions.{read_field, known_or_field, bare_name, field_after, state_word, state_question, member};
 
 use crate::build::{add_step, boxed, null_tree};
 use crate::context::ResolutionContext;
@@ -93,14 +93,14 @@ pub(crate) fn bare_name(
     known_or_field(context, place, name, names.find(name))
 }
 
-fn field_behind(
+fn field_after(
     context: &ResolutionContext<'_, '_>,
     place: Place,
     object: Box<TypedExpr>,
     name: &str,
     class: Option<usize>,
 ) -> Result<Box<TypedExpr>, AllocError>
-    ensures { (a : LocalContext) → IfOk result (λ e. view.expr e.value ≡ field_behind (env_of context.now a) place (view.expr object.value) name.now class) }
+    ensures { (a : LocalContext) → IfOk result (λ e. view.expr e.value ≡ field_after (env_of context.now a) place (view.expr object.value) name.now class) }
 {
     match class {
         None => Ok(object),
@@ -134,7 +134,7 @@ pub(crate) fn state_question(name: &str, class: ClassId) -> StateWord
     }
 }
 
-/// What is read behind a dot of an object or array of the class with this number.
+/// What is read after a dot of an object or array of the class with this number.
 pub(crate) fn member(
     context: &ResolutionContext<'_, '_>,
     place: Place,
@@ -151,5 +151,5 @@ pub(crate) fn member(
     if is_array_number(class) {
         return add_step(context.within.alloc, place, object, TypedStep::Length);
     }
-    field_behind(context, place, object, name, declared_place(class))
+    field_after(context, place, object, name, declared_place(class))
 }

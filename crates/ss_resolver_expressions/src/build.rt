@@ -4,7 +4,7 @@ ghost use Rattle.std.specs.Prelude.{◌≡◌, ◌++◌, ◌∷◌, [], IfOk, On
 ghost use Rattle.ss_typed.specs.Tree.{NullOf};
 ghost use Rattle.ss_typed.specs.View as view;
 ghost use Rattle.ss_typed.specs.View.{grouped};
-ghost use Rattle.ss_typed.specs.Parts.{link_behind as typed_link, step_behind as typed_step};
+ghost use Rattle.ss_typed.specs.Parts.{link_after as typed_link, step_after as typed_step};
 
 use ss_core::Place;
 use ss_typed::{TypedExpr, TypedLink, TypedStep};
@@ -83,7 +83,7 @@ fn path_with(
     Ok(boxed(alloc, TypedExpr::Path(place, value, steps))?)
 }
 
-/// One more step behind an expression; a path that stands at the same place becomes longer.
+/// One more step after an expression; a path that stands at the same place becomes longer.
 pub(crate) fn add_step(
     alloc: Global,
     place: Place,
@@ -146,7 +146,7 @@ fn chain_with(
     Ok(boxed(alloc, TypedExpr::Chain(place, value, links))?)
 }
 
-/// One more operand behind an expression; a chain that stands at the same place becomes longer.
+/// One more operand after an expression; a chain that stands at the same place becomes longer.
 pub(crate) fn add_link(
     alloc: Global,
     place: Place,

@@ -16,7 +16,7 @@ ghost use Rattle.ss_tables_scopes.specs.Views.{receiver_of, callee_of};
 ghost use Rattle.ss_typed.specs.View as view;
 ghost use Rattle.ss_resolver_expressions.specs.LocalContext.{LocalContext};
 ghost use Rattle.ss_resolver_expressions.specs.Environments.{env_of, given};
-ghost use Rattle.ss_resolver_rules.specs.Expressions.{first_class, third_class, state_question, method_call, base_call, place_or_own, call_of, owner_question, question, called_behind, called_bare};
+ghost use Rattle.ss_resolver_rules.specs.Expressions.{first_class, third_class, state_question, method_call, base_call, place_or_own, call_of, owner_question, question, called_after, called_bare};
 
 use crate::bare::{state_question, this};
 use crate::build::{add_step, boxed, null_tree};
@@ -220,8 +220,8 @@ fn question(
     }
 }
 
-// What is called behind a dot.
-pub(crate) fn called_behind(
+// What is called after a dot.
+pub(crate) fn called_after(
     context: &ResolutionContext<'_, '_>,
     receiver: Receiver,
     call: WrittenCall,
@@ -230,7 +230,7 @@ pub(crate) fn called_behind(
     callee: Callee<'_>,
 ) -> Result<Box<TypedExpr>, AllocError>
     ensures { (a : LocalContext) → (es : Arguments) → asked.first.0 ≡ first_class (env_of context.now a) es → asked.third.0 ≡ third_class (env_of context.now a) es
-        → IfOk result (λ r. view.expr r.value ≡ called_behind (env_of context.now a) call.place (receiver_of receiver) (view.expr call.object.value) name.now es (given call.args.items) (callee_of callee.entry)) }
+        → IfOk result (λ r. view.expr r.value ≡ called_after (env_of context.now a) call.place (receiver_of receiver) (view.expr call.object.value) name.now es (given call.args.items) (callee_of callee.entry)) }
 {
     match callee {
         Callee::Method(declared, method) => call_of(context, receiver, call, declared, method),

@@ -10,7 +10,7 @@ ghost use Rattle.ss_resolver_rules.specs.Names.{within};
 ghost use Rattle.ss_resolver_rules.specs.Expressions as resolved;
 ghost use Rattle.ss_resolver_rules.specs.Expressions.{class_named_by};
 ghost use Rattle.ss_resolver_expressions.specs.Environments.{AnOther, env_of, part, part_view, numbers_of};
-ghost use Rattle.ss_ast.specs.Parts.{link_behind, postfix_behind};
+ghost use Rattle.ss_ast.specs.Parts.{link_after, postfix_after};
 
 use crate::build::add_value;
 use crate::context::ResolutionContext;
@@ -29,7 +29,7 @@ use ss_tables_scopes::link_type;
 use ss_typed::TypedExpr;
 use std::alloc::AllocError;
 
-/// An expression up to what may stand behind it.
+/// An expression up to what may stand after it.
 #[cycle(expr)]
 pub fn walk<'p>(
     context: &ResolutionContext<'_, 'p>,
@@ -143,7 +143,7 @@ fn walk_not<'p>(
     Ok(whole)
 }
 
-// What stands behind the left side of an `<==>`.
+// What stands after the left side of an `<==>`.
 #[cycle(expr)]
 fn walk_iff<'p>(
     context: &ResolutionContext<'_, 'p>,
@@ -160,7 +160,7 @@ fn walk_iff<'p>(
     Ok(whole)
 }
 
-// What stands behind the left side of an `==>`.
+// What stands after the left side of an `==>`.
 #[cycle(expr)]
 fn walk_implies<'p>(
     context: &ResolutionContext<'_, 'p>,
@@ -276,7 +276,7 @@ fn resolve_member<'p>(
     Ok(inner)
 }
 
-// What stands behind the first operand of a chain.
+// What stands after the first operand of a chain.
 #[cycle(expr)]
 fn walk_links<'p>(
     context: &ResolutionContext<'_, 'p>,
@@ -286,7 +286,7 @@ fn walk_links<'p>(
     links: &'p [Link],
 ) -> Result<Part<'p>, AllocError>
     ensures part { (t : ExprTree) → part_view first.entry ≡ part (env_of context.now names.old) t
-        → IfOk result (λ r. part_view r ≡ part (env_of context.now names.old) (grouped place t (map link_behind links.now))) }
+        → IfOk result (λ r. part_view r ≡ part (env_of context.now names.old) (grouped place t (map link_after links.now))) }
     ensures kept { OnOk result (names.new ≡ names.old) }
 {
     let mut before = first;
@@ -305,7 +305,7 @@ fn walk_link<'p>(
     link: &'p Link,
 ) -> Result<Part<'p>, AllocError>
     ensures part { (t : ExprTree) → part_view before.entry ≡ part (env_of context.now names.old) t
-        → IfOk result (λ r. part_view r ≡ part (env_of context.now names.old) (link_behind link.now place t)) }
+        → IfOk result (λ r. part_view r ≡ part (env_of context.now names.old) (link_after link.now place t)) }
     ensures kept { OnOk result (names.new ≡ names.old) }
 {
     let known = link_type(context.within, link);
@@ -326,7 +326,7 @@ fn walk_link<'p>(
     }
 }
 
-/// What stands behind the beginning of a path.
+/// What stands after the beginning of a path.
 #[cycle(expr)]
 pub fn walk_postfixes<'p>(
     context: &ResolutionContext<'_, 'p>,
@@ -336,7 +336,7 @@ pub fn walk_postfixes<'p>(
     postfixes: &'p [Postfix],
 ) -> Result<Part<'p>, AllocError>
     ensures part { (t : ExprTree) → part_view first.entry ≡ part (env_of context.now names.old) t
-        → IfOk result (λ r. part_view r ≡ part (env_of context.now names.old) (grouped place t (map postfix_behind postfixes.now))) }
+        → IfOk result (λ r. part_view r ≡ part (env_of context.now names.old) (grouped place t (map postfix_after postfixes.now))) }
     ensures kept { OnOk result (names.new ≡ names.old) }
 {
     let mut before = first;
@@ -355,7 +355,7 @@ fn walk_postfix<'p>(
     postfix: &'p Postfix,
 ) -> Result<Part<'p>, AllocError>
     ensures part { (t : ExprTree) → part_view before.entry ≡ part (env_of context.now names.old) t
-        → IfOk result (λ r. part_view r ≡ part (env_of context.now names.old) (postfix_behind postfix.now place t)) }
+        → IfOk result (λ r. part_view r ≡ part (env_of context.now names.old) (postfix_after postfix.now place t)) }
     ensures kept { OnOk result (names.new ≡ names.old) }
 {
     match postfix {

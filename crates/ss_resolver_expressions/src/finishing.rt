@@ -11,7 +11,7 @@ ghost use Rattle.ss_resolver_expressions.specs.Environments.{env_of, given, part
 
 use crate::bare::{bare_name, member, this};
 use crate::build::{boxed, null_tree};
-use crate::calls::{Asked, WrittenCall, called_bare, called_behind};
+use crate::calls::{Asked, WrittenCall, called_after, called_bare};
 use crate::context::ResolutionContext;
 use crate::local_names::LocalNames;
 use crate::parts::{Part, part_receiver, part_type};
@@ -84,7 +84,7 @@ pub fn called(
                 object,
                 args,
             };
-            called_behind(context, receiver, call, name, asked, callee)
+            called_after(context, receiver, call, name, asked, callee)
         }
         Part::Base(_) | Part::Other(..) => null_tree(context.within.alloc, place),
     }
@@ -105,7 +105,7 @@ pub fn part_class(
     }
 }
 
-/// A member behind a dot.
+/// A member after a dot.
 pub fn dotted<'p>(
     context: &ResolutionContext<'_, '_>,
     names: &LocalNames,

@@ -2,7 +2,7 @@
 
 ghost use Rattle.std.specs.Prelude.{◌≡◌, OnOk};
 ghost use Rattle.ss_tables.specs.Named.{named};
-ghost use Rattle.ss_resolver_expressions.specs.LocalContext.{no_locals, entered, left, with_local, within_member, behind_member};
+ghost use Rattle.ss_resolver_expressions.specs.LocalContext.{no_locals, entered, left, with_local, within_member, after_member};
 
 use ss_core::Ty;
 use ss_resolver_rules::Known;
@@ -114,7 +114,7 @@ impl LocalNames {
 
     /// Closes it.
     pub fn leave_member(&mut self)
-        ensures { self.new ≡ behind_member self.old }
+        ensures { self.new ≡ after_member self.old }
     {
         self.leave();
         self.bound = self.bound.saturating_sub(1);

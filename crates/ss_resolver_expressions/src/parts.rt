@@ -12,14 +12,14 @@ use ss_tables_lookup::StaticType;
 use ss_tables_scopes::{Receiver, name_receiver, name_type, read_type};
 use ss_typed::TypedExpr;
 
-/// An expression before what may stand behind it.
+/// An expression before what may stand after it.
 #[derive(Drop)]
 pub enum Part<'p> {
     /// A bare name.
     Name(Place, &'p str),
     /// The word `base`.
     Base(Place),
-    /// A member behind a dot: what stands before it, with its static type and its tree.
+    /// A member after a dot: what stands before it, with its static type and its tree.
     Member {
         place: Place,
         receiver: Receiver,

@@ -277,7 +277,7 @@ pub(crate) fn quantified_part<'p>(
     Ok(Part::Other(Some(StaticType::Bool), whole))
 }
 
-// ---- with what stands behind the first part
+// ---- with what stands after the first part
 
 /// An operation.
 pub(crate) fn operation(
@@ -297,7 +297,7 @@ pub(crate) fn operation(
     Ok(whole)
 }
 
-/// `is T` behind an expression.
+/// `is T` after an expression.
 pub(crate) fn is_of(
     context: &ResolutionContext<'_, '_>,
     names: &LocalNames,
@@ -314,7 +314,7 @@ pub(crate) fn is_of(
     Ok(whole)
 }
 
-/// `as T` behind an expression.
+/// `as T` after an expression.
 pub(crate) fn as_of(
     context: &ResolutionContext<'_, '_>,
     names: &LocalNames,

@@ -3,7 +3,7 @@
 ghost use Rattle.std.specs.Prelude.{◌≡◌, map, OnOk, option_map};
 ghost use Rattle.ss_ast.specs.Expressions.{expr_tree};
 ghost use Rattle.ss_ast.specs.Statements.{simple_tree, for_init_tree, block_tree, stmt_tree, stmt_trees};
-ghost use Rattle.ss_tables.specs.Scopes.{enter, behind, behind_init};
+ghost use Rattle.ss_tables.specs.Scopes.{enter, behind, after_init};
 ghost use Rattle.ss_tables.specs.Named.{left};
 ghost use Rattle.ss_tables_scopes.specs.Views.{scope_of};
 ghost use Rattle.ss_resolver_names_rules.specs.Locals.{if_param, target_param, simple_params, init_params, step_params, stmt_params, block_params, stmts_params};
@@ -108,8 +108,8 @@ fn note_heading(
     step: &Option<Simple>,
 ) -> Result<(), AllocError>
     ensures named { OnOk result (names_of names.new.keys
-        ≡ step_params (behind_init (scope_of context.entry locals.old) (option_map for_init_tree init.now)) (init_params (scope_of context.entry locals.old) (names_of names.old.keys) (option_map for_init_tree init.now)) (option_map simple_tree step.now)) }
-    ensures declared { OnOk result (scope_of context.entry locals.new ≡ behind_init (scope_of context.entry locals.old) (option_map for_init_tree init.now)) }
+        ≡ step_params (after_init (scope_of context.entry locals.old) (option_map for_init_tree init.now)) (init_params (scope_of context.entry locals.old) (names_of names.old.keys) (option_map for_init_tree init.now)) (option_map simple_tree step.now)) }
+    ensures declared { OnOk result (scope_of context.entry locals.new ≡ after_init (scope_of context.entry locals.old) (option_map for_init_tree init.now)) }
     ensures around { OnOk result (locals.new.outer ≡ locals.old.outer) }
 {
     note_init(context, locals, names, init)?;

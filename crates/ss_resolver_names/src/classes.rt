@@ -205,7 +205,7 @@ fn fields_before(tables: &Tables<'_>, class: usize) -> Result<usize, AllocError>
     Ok(0)
 }
 
-/// The fields that come behind the last one that an object may have.
+/// The fields that come after the last one that an object may have.
 pub fn check_fields(
     tables: &Tables<'_>,
     class: usize,

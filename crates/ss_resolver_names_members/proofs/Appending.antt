@@ -1,4 +1,4 @@
--- Faults that come behind others.
+-- Faults that come after others.
 use Rattle.std.proofs.Common.{◌≡◌, ◌++◌, sym, ap, ◌∙◌, append_assoc}
 use Rattle.ss_resolver_names_rules.specs.Faults.{Faults}
 

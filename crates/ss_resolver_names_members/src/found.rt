@@ -1,4 +1,4 @@
-// Faults that are found, one behind another.
+// Faults that are found, one after another.
 
 ghost use Rattle.std.specs.Prelude.{◌≡◌, ◌++◌, OnOk};
 ghost use Rattle.ss_ast.specs.Expressions.{type_tree, type_name_tree, name_tree};
@@ -134,7 +134,7 @@ pub fn add_pending(
     }
 }
 
-// A method behind `base`.
+// A method after `base`.
 fn add_base_called(
     context: ClassContext<'_, '_>,
     locals: &Scopes,
@@ -149,7 +149,7 @@ fn add_base_called(
     add_unless(faults, known, Rule::Unknown, name.place)
 }
 
-// A method behind a class.
+// A method after a class.
 fn add_class_called(
     context: ClassContext<'_, '_>,
     locals: &Scopes,
@@ -215,7 +215,7 @@ pub fn add_asked(
     }
 }
 
-/// What an expression has besides where a dot and a name stand behind it.
+/// What an expression has besides where a dot and a name stand after it.
 pub fn add_dotted(
     context: ClassContext<'_, '_>,
     locals: &Scopes,

@@ -1,4 +1,4 @@
-//! The faults of names in expressions, statements and members, each behind those that were noted before.
+//! The faults of names in expressions, statements and members, each after those that were noted before.
 #![tactic(auto)]
 
 mod found;

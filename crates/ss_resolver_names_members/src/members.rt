@@ -177,7 +177,7 @@ fn check_initials(
     Ok(())
 }
 
-/// A method or a constructor behind its name.
+/// A method or a constructor after its name.
 #[derive(Clone, Copy)]
 struct WrittenBody<'m> {
     params: &'m [Param],

@@ -3,7 +3,7 @@
 ghost use Rattle.std.specs.Prelude.{◌≡◌, ◌++◌, map, OnOk, option_map};
 ghost use Rattle.ss_ast.specs.Expressions.{expr_tree, name_tree, type_tree};
 ghost use Rattle.ss_ast.specs.Statements.{declarator_tree, declaration_tree, simple_tree, for_init_tree, block_tree, stmt_tree, stmt_trees};
-ghost use Rattle.ss_tables.specs.Scopes.{enter, behind, behind_init, declare_all, declare_local};
+ghost use Rattle.ss_tables.specs.Scopes.{enter, behind, after_init, declare_all, declare_local};
 ghost use Rattle.ss_resolver_names_rules.specs.Expressions.{expr_faults};
 ghost use Rattle.ss_resolver_names_rules.specs.Faults.{twice_in};
 ghost use Rattle.ss_resolver_names_rules.specs.Statements.{faults_of_all, faults_of_any, named_class_faults, declarators_faults, declaration_faults, simple_faults, faults_of_any_simple, init_faults, heading_faults, stmt_faults, block_faults, stmts_faults};
@@ -186,7 +186,7 @@ fn check_init(
     init: &Option<ForInit>,
 ) -> Result<(), AllocError>
     ensures noted { OnOk result (faults.new.items ≡ faults.old.items ++ init_faults (scope_of context.entry locals.old) (option_map for_init_tree init.now)) }
-    ensures kept { OnOk result (scope_of context.entry locals.new ≡ behind_init (scope_of context.entry locals.old) (option_map for_init_tree init.now)) }
+    ensures kept { OnOk result (scope_of context.entry locals.new ≡ after_init (scope_of context.entry locals.old) (option_map for_init_tree init.now)) }
     ensures around { OnOk result (locals.new.outer ≡ locals.old.outer) }
 {
     match init {
@@ -232,8 +232,8 @@ fn check_start(
     invariants: &[Expr],
 ) -> Result<(), AllocError>
     ensures noted { OnOk result (faults.new.items ≡ faults.old.items ++ (init_faults (scope_of context.entry locals.old) (option_map for_init_tree heading.entry.first.now)
-        ++ heading_faults (behind_init (scope_of context.entry locals.old) (option_map for_init_tree heading.entry.first.now)) (option_map expr_tree heading.entry.test.now) (option_map simple_tree heading.entry.step.now) (map expr_tree invariants.now))) }
-    ensures kept { OnOk result (scope_of context.entry locals.new ≡ behind_init (scope_of context.entry locals.old) (option_map for_init_tree heading.entry.first.now)) }
+        ++ heading_faults (after_init (scope_of context.entry locals.old) (option_map for_init_tree heading.entry.first.now)) (option_map expr_tree heading.entry.test.now) (option_map simple_tree heading.entry.step.now) (map expr_tree invariants.now))) }
+    ensures kept { OnOk result (scope_of context.entry locals.new ≡ after_init (scope_of context.entry locals.old) (option_map for_init_tree heading.entry.first.now)) }
     ensures around { OnOk result (locals.new.outer ≡ locals.old.outer) }
 {
     let WrittenHeading { first, test, step } = heading;
@@ -317,8 +317,8 @@ fn check_for(
     invariants: &[Expr],
 ) -> Result<(), AllocError>
     ensures noted { OnOk result (faults.new.items ≡ faults.old.items ++ (init_faults (enter (scope_of context.entry locals.old)) (option_map for_init_tree heading.entry.first.now)
-        ++ heading_faults (behind_init (enter (scope_of context.entry locals.old)) (option_map for_init_tree heading.entry.first.now)) (option_map expr_tree heading.entry.test.now) (option_map simple_tree heading.entry.step.now) (map expr_tree invariants.now)
-        ++ stmt_faults (enter (behind_init (enter (scope_of context.entry locals.old)) (option_map for_init_tree heading.entry.first.now))) (stmt_tree body.now))) }
+        ++ heading_faults (after_init (enter (scope_of context.entry locals.old)) (option_map for_init_tree heading.entry.first.now)) (option_map expr_tree heading.entry.test.now) (option_map simple_tree heading.entry.step.now) (map expr_tree invariants.now)
+        ++ stmt_faults (enter (after_init (enter (scope_of context.entry locals.old)) (option_map for_init_tree heading.entry.first.now))) (stmt_tree body.now))) }
     ensures kept { OnOk result (locals.new ≡ locals.old) }
 {
     locals.enter(context.alloc)?;

@@ -10,9 +10,9 @@ ghost use Rattle.ss_tables_lookup.specs.Classes.{trees};
 ghost use Rattle.ss_tables_lookup.specs.Views.{type_of};
 ghost use Rattle.ss_tables_scopes.specs.Views.{scope_of};
 ghost use Rattle.ss_resolver_names_rules.specs.Faults.{Faults, class_faults, type_name_faults, type_faults};
-ghost use Rattle.ss_resolver_names_rules.specs.Expressions.{expr_faults, class_named_by, argument_faults, behind_argument, arguments_faults};
+ghost use Rattle.ss_resolver_names_rules.specs.Expressions.{expr_faults, class_named_by, argument_faults, after_argument, arguments_faults};
 ghost use Rattle.ss_resolver_names_rules.specs.Prefixes.{AnOther, prefix, settled};
-ghost use Rattle.ss_ast.specs.Parts.{link_behind, postfix_behind};
+ghost use Rattle.ss_ast.specs.Parts.{link_after, postfix_after};
 ghost use Rattle.ss_resolver_scoping.specs.Views.{prefix_view};
 
 use crate::found::{
@@ -31,7 +31,7 @@ use ss_tables_scopes::{
 };
 use std::alloc::AllocError;
 
-// A dot and a name behind the beginning of a path.
+// A dot and a name after the beginning of a path.
 fn walk_member<'a>(
     context: ClassContext<'_, '_>,
     locals: &Scopes,
@@ -230,7 +230,7 @@ fn check_member(
     Ok(())
 }
 
-// What stands behind the first operand of a chain.
+// What stands after the first operand of a chain.
 #[cycle(expr)]
 fn walk_links<'a>(
     context: ClassContext<'_, '_>,
@@ -241,9 +241,9 @@ fn walk_links<'a>(
     links: &'a [Link],
 ) -> Result<Prefix<'a>, AllocError>
     ensures noted { (e : ExprTree) → (found : Faults) → faults.old.items ≡ found ++ settled (scope_of context.entry locals.old) e → prefix_view first.entry ≡ prefix (scope_of context.entry locals.old) e
-        → OnOk result (faults.new.items ≡ found ++ settled (scope_of context.entry locals.old) (grouped place e (map link_behind links.now))) }
+        → OnOk result (faults.new.items ≡ found ++ settled (scope_of context.entry locals.old) (grouped place e (map link_after links.now))) }
     ensures begun { (e : ExprTree) → prefix_view first.entry ≡ prefix (scope_of context.entry locals.old) e
-        → IfOk result (λ r. prefix_view r ≡ prefix (scope_of context.entry locals.old) (grouped place e (map link_behind links.now))) }
+        → IfOk result (λ r. prefix_view r ≡ prefix (scope_of context.entry locals.old) (grouped place e (map link_after links.now))) }
     ensures kept { OnOk result (locals.new ≡ locals.old) }
 {
     let mut before = first;
@@ -263,8 +263,8 @@ fn walk_link<'a>(
     link: &'a Link,
 ) -> Result<Prefix<'a>, AllocError>
     ensures noted { (e : ExprTree) → (found : Faults) → faults.old.items ≡ found ++ settled (scope_of context.entry locals.old) e → prefix_view before.entry ≡ prefix (scope_of context.entry locals.old) e
-        → OnOk result (faults.new.items ≡ found ++ settled (scope_of context.entry locals.old) (link_behind link.now place e)) }
-    ensures begun { (e : ExprTree) → IfOk result (λ r. prefix_view r ≡ prefix (scope_of context.entry locals.old) (link_behind link.now place e)) }
+        → OnOk result (faults.new.items ≡ found ++ settled (scope_of context.entry locals.old) (link_after link.now place e)) }
+    ensures begun { (e : ExprTree) → IfOk result (λ r. prefix_view r ≡ prefix (scope_of context.entry locals.old) (link_after link.now place e)) }
     ensures kept { OnOk result (locals.new ≡ locals.old) }
 {
     add_pending(context, locals, faults, before)?;
@@ -285,7 +285,7 @@ fn walk_link<'a>(
     }
 }
 
-// What stands behind the beginning of a path.
+// What stands after the beginning of a path.
 #[cycle(expr)]
 fn walk_postfixes<'a>(
     context: ClassContext<'_, '_>,
@@ -296,9 +296,9 @@ fn walk_postfixes<'a>(
     postfixes: &'a [Postfix],
 ) -> Result<Prefix<'a>, AllocError>
     ensures noted { (e : ExprTree) → (found : Faults) → faults.old.items ≡ found ++ settled (scope_of context.entry locals.old) e → prefix_view first.entry ≡ prefix (scope_of context.entry locals.old) e
-        → OnOk result (faults.new.items ≡ found ++ settled (scope_of context.entry locals.old) (grouped place e (map postfix_behind postfixes.now))) }
+        → OnOk result (faults.new.items ≡ found ++ settled (scope_of context.entry locals.old) (grouped place e (map postfix_after postfixes.now))) }
     ensures begun { (e : ExprTree) → prefix_view first.entry ≡ prefix (scope_of context.entry locals.old) e
-        → IfOk result (λ r. prefix_view r ≡ prefix (scope_of context.entry locals.old) (grouped place e (map postfix_behind postfixes.now))) }
+        → IfOk result (λ r. prefix_view r ≡ prefix (scope_of context.entry locals.old) (grouped place e (map postfix_after postfixes.now))) }
     ensures kept { OnOk result (locals.new ≡ locals.old) }
 {
     let mut before = first;
@@ -318,9 +318,9 @@ fn walk_postfix<'a>(
     postfix: &'a Postfix,
 ) -> Result<Prefix<'a>, AllocError>
     ensures noted { (e : ExprTree) → (found : Faults) → faults.old.items ≡ found ++ settled (scope_of context.entry locals.old) e → prefix_view before.entry ≡ prefix (scope_of context.entry locals.old) e
-        → OnOk result (faults.new.items ≡ found ++ settled (scope_of context.entry locals.old) (postfix_behind postfix.now place e)) }
+        → OnOk result (faults.new.items ≡ found ++ settled (scope_of context.entry locals.old) (postfix_after postfix.now place e)) }
     ensures begun { (e : ExprTree) → prefix_view before.entry ≡ prefix (scope_of context.entry locals.old) e
-        → IfOk result (λ r. prefix_view r ≡ prefix (scope_of context.entry locals.old) (postfix_behind postfix.now place e)) }
+        → IfOk result (λ r. prefix_view r ≡ prefix (scope_of context.entry locals.old) (postfix_after postfix.now place e)) }
     ensures kept { OnOk result (locals.new ≡ locals.old) }
 {
     match postfix {
@@ -357,7 +357,7 @@ pub fn check_arguments(
     let mut which = asked;
     for argument in exprs {
         check_argument(context, locals, faults, which, argument)?;
-        which = behind_argument(which);
+        which = after_argument(which);
     }
     Ok(())
 }
@@ -392,8 +392,8 @@ fn names_class(which: Option<usize>) -> bool
 }
 
 // The number of the argument that names a class, counted from the next one.
-fn behind_argument(which: Option<usize>) -> Option<usize>
-    ensures { result ≡ behind_argument which }
+fn after_argument(which: Option<usize>) -> Option<usize>
+    ensures { result ≡ after_argument which }
 {
     match which {
         Some(number) => { if number == 0 { None } else { Some(number - 1) } }

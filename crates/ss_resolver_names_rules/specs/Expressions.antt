@@ -10,7 +10,7 @@ use Rattle.ss_tables.specs.Scopes.{Scope, within_quantifier}
 use Rattle.ss_tables.specs.Statics.{Receiver, TheConsole, TheOwner, TheBase, AClass, AValue, is_member, is_known, receiver, static}
 use Rattle.ss_resolver_names_rules.specs.Faults.{Faults, unless, unknown, class_faults, type_name_faults, type_faults}
 
--- ---- members behind a dot
+-- ---- members after a dot
 
 -- an object of the declared class has a field or a method of the name; `object` has none
 abbrev pub declares : List ClassTree → List ℕ → Option ℕ → Bool
@@ -26,7 +26,7 @@ has_member cs n (Some t) = if is_array_number t then is_length n else declares c
 abbrev pub is_inherited : List ClassTree → ℕ → List ℕ → Bool
 is_inherited cs k n = is_some (inherited_field cs k n) || is_some (inherited_method cs k n)
 
--- what is read behind the dot; the state words may stand behind any, and behind `base` nothing is read
+-- what is read after the dot; the state words may stand after any, and after `base` nothing is read
 abbrev pub read_faults : Scope → NameTree → Receiver → Faults
 read_faults s n TheConsole = unless (is_print n.text) (unknown n.place)
 read_faults s n TheOwner = unless (is_owner_word n.text) (unknown n.place)
@@ -42,7 +42,7 @@ before_dot TheBase fs = fs
 before_dot (AClass k) fs = fs
 before_dot (AValue t) fs = fs
 
--- what is called behind the dot, with the faults of the same where it is read: `base` or a class may stand before the dot of a call
+-- what is called after the dot, with the faults of the same where it is read: `base` or a class may stand before the dot of a call
 abbrev pub called_faults : Scope → NameTree → Receiver → Faults → Faults
 called_faults s n TheConsole fs = fs
 called_faults s n TheOwner fs = fs
@@ -146,10 +146,10 @@ argument_faults s None e fs = fs
 argument_faults s (Some zero) e fs = class_named_by s e fs
 argument_faults s (Some (suc n)) e fs = fs
 
-abbrev pub behind_argument : Option ℕ → Option ℕ
-behind_argument None = None
-behind_argument (Some zero) = None
-behind_argument (Some (suc n)) = Some n
+abbrev pub after_argument : Option ℕ → Option ℕ
+after_argument None = None
+after_argument (Some zero) = None
+after_argument (Some (suc n)) = Some n
 
 -- ---- expressions
 
@@ -184,4 +184,4 @@ abbrev mutual
   -- the number tells which argument names a class, counted from 0
   pub arguments_faults : Scope → Option ℕ → Arguments → Faults
   arguments_faults s which NoMore = []
-  arguments_faults s which (Argument e es) = argument_faults s which e (expr_faults s e) ++ arguments_faults s (behind_argument which) es
+  arguments_faults s which (Argument e es) = argument_faults s which e (expr_faults s e) ++ arguments_faults s (after_argument which) es

@@ -3,7 +3,7 @@
 use Rattle.std.specs.Prelude.{ℕ, ◌+◌, List, [], length, Option, Some, None, if◌then◌else◌}
 use Rattle.ss_ast.specs.Expressions.{ExprTree, IffOf, ImpliesOf, BinaryOf, IsOf, AsOf, NegateOf, NotOf, CastOf, MemberOf, ElementOf, CallOf, NumberOf, TextOf, TruthOf, NullOf, ThisOf, BaseOf, ResultOf, NameOf, ParenOf, OldOf, NewOf, NewArrayOf, QuantifiedOf}
 use Rattle.ss_ast.specs.Statements.{SimpleTree, AssignOf, StepOf, AloneOf, ForInitTree, DeclareFirst, SimpleFirst, BlockTree, BlockOf, StmtTree, InBlock, DeclareOf, SimpleOf, IfOf, IfElseOf, WhileOf, ForOf, ReturnOf, AssertOf, AssumeOf, ExposeOf, EmptyOf, StmtTrees, NoMore, Before}
-use Rattle.ss_tables.specs.Scopes.{Local, Scope, local_named, enter, behind, behind_init}
+use Rattle.ss_tables.specs.Scopes.{Local, Scope, local_named, enter, behind, after_init}
 use Rattle.ss_resolver_names_rules.specs.Faults.{with_name}
 
 -- ---- declared locals
@@ -35,7 +35,7 @@ abbrev mutual
   stmts_locals NoMore = 0
   stmts_locals (Before x xs) = stmt_locals x + stmts_locals xs
 
--- ---- parameters that are assigned, each once: behind these names come those of a statement
+-- ---- parameters that are assigned, each once: after these names come those of a statement
 
 abbrev pub if_param : List (List ℕ) → List ℕ → Option Local → List (List ℕ)
 if_param ns n None = ns
@@ -90,7 +90,7 @@ abbrev mutual
   stmt_params s ns (IfElseOf p e a b) = stmt_params (enter s) (stmt_params (enter s) ns a) b
   stmt_params s ns (WhileOf p e es a) = stmt_params (enter s) ns a
   stmt_params s ns (ForOf p i e x es a) =
-      stmt_params (enter (behind_init (enter s) i)) (step_params (behind_init (enter s) i) (init_params (enter s) ns i) x) a
+      stmt_params (enter (after_init (enter s) i)) (step_params (after_init (enter s) i) (init_params (enter s) ns i) x) a
   stmt_params s ns (ReturnOf p e) = ns
   stmt_params s ns (AssertOf p e) = ns
   stmt_params s ns (AssumeOf p e) = ns

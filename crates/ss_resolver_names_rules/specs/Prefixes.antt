@@ -1,4 +1,4 @@
--- Paths read from the left: what is known of an expression before what stands behind it. A name alone and a member behind `base` or a
+-- Paths read from the left: what is known of an expression before what stands after it. A name alone and a member after `base` or a
 -- class have faults that the next part decides.
 use Rattle.std.specs.Prelude.{◌≡◌, ℕ, Bool, true, false, ◌||◌, List, [], ◌++◌, Option, Some, None, option_and_then, option_map, if◌then◌else◌}
 use Rattle.ss_core.specs.declared.names.Place.{Place}
@@ -16,7 +16,7 @@ pub data Prefix : Type 0 where
   ABareName : Place → List ℕ → Prefix
   -- the word `base`
   ABaseWord : Prefix
-  -- a member behind a dot, with the place of the bare name before it where one stands there
+  -- a member after a dot, with the place of the bare name before it where one stands there
   AMember : Option Place → Receiver → NameTree → Prefix
   -- any other expression, with its static type
   AnOther : Option Ty → Prefix
@@ -97,7 +97,7 @@ asked s ABaseWord = []
 asked s (AMember b r n) = member_pending b r
 asked s (AnOther t) = []
 
--- .. where a dot and a name stand behind it
+-- .. where a dot and a name stand after it
 abbrev pub dotted : Scope → Prefix → NameTree → Receiver → Faults
 dotted s x n TheConsole = unless (is_print n.text) (unknown n.place)
 dotted s x n TheOwner = unless (is_owner_word n.text) (unknown n.place)
@@ -133,7 +133,7 @@ prefix s (NewOf p n es) = AnOther (static s (NewOf p n es))
 prefix s (NewArrayOf p q t e) = AnOther (static s (NewArrayOf p q t e))
 prefix s (QuantifiedOf p q n low high e) = AnOther (static s (QuantifiedOf p q n low high e))
 
--- the faults that are settled, whatever stands behind it
+-- the faults that are settled, whatever stands after it
 abbrev pub settled : Scope → ExprTree → Faults
 settled s (NameOf p n) = []
 settled s (BaseOf p) = []

@@ -50,7 +50,7 @@ depth_faults cs k c = if is_deep cs k then fault rule.Limit c.name.place else []
 abbrev pub inherited_fields : List ClassTree → ℕ → ℕ
 inherited_fields cs k = sum_by (λ j. length (fields_in (members_at cs j))) (chain_above cs k)
 
--- each field that comes behind the last one that an object may have, where so many come before
+-- each field that comes after the last one that an object may have, where so many come before
 abbrev pub field_limit_faults : ℕ → List FieldTree → Faults
 field_limit_faults before [] = []
 field_limit_faults before (f ∷ fs) =

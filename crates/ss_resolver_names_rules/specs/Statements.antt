@@ -3,7 +3,7 @@ use Rattle.std.specs.Prelude.{List, [], ◌∷◌, ◌++◌, Option, Some, None}
 use Rattle.ss_ast.specs.Expressions.{NameTree, TypeTree, ExprTree}
 use Rattle.ss_ast.specs.Statements.{DeclaratorTree, DeclarationTree, SimpleTree, AssignOf, StepOf, AloneOf, ForInitTree, DeclareFirst, SimpleFirst, BlockTree, BlockOf, StmtTree, InBlock, DeclareOf, SimpleOf, IfOf, IfElseOf, WhileOf, ForOf, ReturnOf, AssertOf, AssumeOf, ExposeOf, EmptyOf, StmtTrees, NoMore, Before}
 use Rattle.ss_ast.specs.Programs.{ClassTree}
-use Rattle.ss_tables.specs.Scopes.{Scope, enter, declare_local, behind, behind_init}
+use Rattle.ss_tables.specs.Scopes.{Scope, enter, declare_local, behind, after_init}
 use Rattle.ss_resolver_names_rules.specs.Faults.{Faults, twice_in, class_faults, type_faults}
 use Rattle.ss_resolver_names_rules.specs.Expressions.{expr_faults}
 
@@ -56,7 +56,7 @@ abbrev mutual
   stmt_faults s (IfElseOf p e a b) = expr_faults s e ++ stmt_faults (enter s) a ++ stmt_faults (enter s) b
   stmt_faults s (WhileOf p e es a) = expr_faults s e ++ faults_of_all s es ++ stmt_faults (enter s) a
   stmt_faults s (ForOf p i e x es a) =
-      init_faults (enter s) i ++ heading_faults (behind_init (enter s) i) e x es ++ stmt_faults (enter (behind_init (enter s) i)) a
+      init_faults (enter s) i ++ heading_faults (after_init (enter s) i) e x es ++ stmt_faults (enter (after_init (enter s) i)) a
   stmt_faults s (ReturnOf p e) = faults_of_any s e
   stmt_faults s (AssertOf p e) = expr_faults s e
   stmt_faults s (AssumeOf p e) = expr_faults s e

@@ -10,7 +10,7 @@ use Rattle.ss_typed.specs.declared.expr.TypedExpr.TheOpen.{TypedLink-F}
 use Rattle.ss_typed.specs.Tree.{ExprTree, OneOf, AllOf}
 use Rattle.ss_typed.specs.View.{Behind, grouped, link_step}
 use Rattle.ss_resolver_rules.specs.Programs.{one_of}
-use Rattle.ss_typed.specs.Parts.{link_behind as typed_link, step_behind as typed_step}
+use Rattle.ss_typed.specs.Parts.{link_after as typed_link, step_after as typed_step}
 use Rattle.ss_typed.proofs.Grouping.{link_shape, stepped_push}
 
 -- ---- chains

@@ -148,7 +148,7 @@ fn add_term<'p>(
     Ok(())
 }
 
-// The terms of a clause behind others.
+// The terms of a clause after others.
 fn resolve_terms<'p>(
     context: &ResolutionContext<'_, 'p>,
     names: &mut LocalNames,
@@ -174,7 +174,7 @@ fn or_none(alloc: Global, terms: Option<Vec<TypedModifies>>) -> Vec<TypedModifie
     }
 }
 
-// One more clause behind those with these terms.
+// One more clause after those with these terms.
 fn with_clause<'p>(
     context: &ResolutionContext<'_, 'p>,
     names: &mut LocalNames,

@@ -6,7 +6,7 @@ ghost use Rattle.ss_typed.specs.Tree.{ExprTree, OneOf, AllOf};
 ghost use Rattle.ss_typed.specs.View as view;
 ghost use Rattle.ss_typed.specs.View.{grouped};
 ghost use Rattle.ss_resolver_rules.specs.Programs.{one_of};
-ghost use Rattle.ss_typed.specs.Parts.{step_behind as typed_step};
+ghost use Rattle.ss_typed.specs.Parts.{step_after as typed_step};
 
 use ss_core::{FieldId, Place};
 use ss_typed::{TypedExpr, TypedModifies, TypedStep};

@@ -19,7 +19,7 @@ use Rattle.ss_resolver_rules.specs.Names.{Env, known, within}
 use Rattle.ss_resolver_rules.specs.declared.known.Known.{Known}
 use Rattle.ss_resolver_rules.specs.declared.known.Known.TheVariants.{Variable, BoundName}
 
--- A number that is no `int` counts as the largest one. A source has none: its literals end at 2147483647, and the one behind a
+-- A number that is no `int` counts as the largest one. A source has none: its literals end at 2147483647, and the one after a
 -- minus at 2147483648.
 abbrev pub as_int : ℤ → ℤ
 as_int n =
@@ -46,9 +46,9 @@ known_or_field e p n None = read_field e p (this e p) (field_of e.scope.classes 
 abbrev pub bare_name : Env → Place → List ℕ → ExprTree
 bare_name e p n = known_or_field e p n (known e n)
 
-abbrev pub field_behind : Env → Place → ExprTree → List ℕ → Option ℕ → ExprTree
-field_behind e p o n None = o
-field_behind e p o n (Some k) = read_field e p o (field_of e.scope.classes k n)
+abbrev pub field_after : Env → Place → ExprTree → List ℕ → Option ℕ → ExprTree
+field_after e p o n None = o
+field_after e p o n (Some k) = read_field e p o (field_of e.scope.classes k n)
 
 -- the state words without arguments
 abbrev pub state_word : List ℕ → WordTree
@@ -58,12 +58,12 @@ state_word n = if bytes_eq n (codes "IsConsistent") then Consistent else if byte
 abbrev pub state_question : List ℕ → ℕ → WordTree
 state_question n t = if bytes_eq n (codes "IsLevel") then Level t else Packed t
 
--- what is read behind a dot of an object or array of this class: a state word, the length of an array, or a field
+-- what is read after a dot of an object or array of this class: a state word, the length of an array, or a field
 abbrev pub member : Env → Place → ExprTree → List ℕ → ℕ → ExprTree
 member e p o n t =
     if is_state_read n then StateOf p (state_word n) o
     else if is_array_number t then LengthOf p o
-    else field_behind e p o n (declared_place t)
+    else field_after e p o n (declared_place t)
 
 -- ---- calls
 
@@ -119,13 +119,13 @@ question e p (AClass k) o n es args = StateOf p (state_question n (first_class e
 question e p (AValue t) o n es args = StateOf p (state_question n (first_class e es)) o
 question e p TheConsole o n es args = NullOf p
 
--- what is called behind a dot
-abbrev pub called_behind : Env → Place → Receiver → ExprTree → List ℕ → Arguments → typed.Arguments → Callee → ExprTree
-called_behind e p r o n es args (AMethod m) = call_of e p r o args m
-called_behind e p r o n es args (AWord k) = question e p r o n es args
-called_behind e p r o n es args (APrint is_line) = NullOf p
-called_behind e p r o n es args ABase = NullOf p
-called_behind e p r o n es args NoCallee = CallOf p o 0 None args
+-- what is called after a dot
+abbrev pub called_after : Env → Place → Receiver → ExprTree → List ℕ → Arguments → typed.Arguments → Callee → ExprTree
+called_after e p r o n es args (AMethod m) = call_of e p r o args m
+called_after e p r o n es args (AWord k) = question e p r o n es args
+called_after e p r o n es args (APrint is_line) = NullOf p
+called_after e p r o n es args ABase = NullOf p
+called_after e p r o n es args NoCallee = CallOf p o 0 None args
 
 -- a method of the class or of one above, called by its bare name at place q
 abbrev pub called_bare : Env → Place → Place → typed.Arguments → Callee → ExprTree
@@ -168,7 +168,7 @@ abbrev mutual
   pub call : Env → Place → Arguments → typed.Arguments → text.ExprTree → ExprTree
   call e p es given (text.NameOf q n) = called_bare e p q given (name_callee e.scope n)
   call e p es given (text.MemberOf q a n) =
-      called_behind e p (receiver e.scope a (static e.scope a)) (expr e a) n.text es given (member_callee e.scope n.text (receiver e.scope a (static e.scope a)))
+      called_after e p (receiver e.scope a (static e.scope a)) (expr e a) n.text es given (member_callee e.scope n.text (receiver e.scope a (static e.scope a)))
   call e p es given (text.NumberOf q n) = NullOf p
   call e p es given (text.TruthOf q b) = NullOf p
   call e p es given (text.NullOf q) = NullOf p

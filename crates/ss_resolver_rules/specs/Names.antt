@@ -45,8 +45,8 @@ abbrev pub declare_all : Env → TypeTree → List DeclaratorTree → Env
 declare_all e t [] = e
 declare_all e t (d ∷ ds) = declare_all (declare e t d.name) t ds
 
-abbrev pub behind_declaration : Env → DeclarationTree → Env
-behind_declaration e d = declare_all e d.ty d.declarators
+abbrev pub after_declaration : Env → DeclarationTree → Env
+after_declaration e d = declare_all e d.ty d.declarators
 
 abbrev pub declare_param : Env → ParamTree → Env
 declare_param e p = record e { scope = scopes.declare_params e.scope (p ∷ []); inner = with_named e.inner p.name.text (Variable e.next (type_id e.scope.classes p.ty)); next = e.next + 1 }

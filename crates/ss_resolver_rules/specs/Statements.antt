@@ -10,7 +10,7 @@ use Rattle.ss_core.specs.Tree.{LocalTree}
 use Rattle.ss_tables.specs.Statics.{Receiver, TheConsole, TheOwner, TheBase, AClass, AValue, receiver, static}
 use Rattle.ss_typed.specs.Tree.{ExprTree, DeclaratorTree, SimpleTree, AssignOf, StepOf, AloneOf, PrintOf, PrintTextOf, BaseCallOf, InitTree, DeclareFirst, SimpleFirst, BlockTree, BlockOf, StmtTree, InBlock, DeclareOf, SimpleOf, IfOf, IfElseOf, WhileOf, ForOf, ReturnOf, AssertOf, AssumeOf, ExposeOf, EmptyOf, StmtTrees, NoMore as NoStmt, Before}
 use Rattle.ss_resolver_rules.specs.Numbers.{class_id, type_id}
-use Rattle.ss_resolver_rules.specs.Names.{Env, enter, declare, behind_declaration}
+use Rattle.ss_resolver_rules.specs.Names.{Env, enter, declare, after_declaration}
 use Rattle.ss_resolver_rules.specs.Expressions.{expr, args}
 
 -- ---- the locals that are declared
@@ -55,9 +55,9 @@ abbrev mutual
 abbrev pub past : Env → List Declared → Env
 past e ds = record e { next = e.next + length ds }
 
--- behind a statement: a declaration alone leaves its names in scope
+-- after a statement: a declaration alone leaves its names in scope
 abbrev pub behind : Env → written.StmtTree → Env
-behind e (written.DeclareOf d) = behind_declaration e d
+behind e (written.DeclareOf d) = after_declaration e d
 behind e (written.InBlock b) = past e (declared_in_block b)
 behind e (written.SimpleOf x) = e
 behind e (written.IfOf p c a) = past e (declared_in a)
@@ -124,7 +124,7 @@ first e (Some (written.SimpleFirst x)) = Some (SimpleFirst (simple e x))
 
 abbrev pub behind_first : Env → Option written.ForInitTree → Env
 behind_first e None = e
-behind_first e (Some (written.DeclareFirst d)) = behind_declaration e d
+behind_first e (Some (written.DeclareFirst d)) = after_declaration e d
 behind_first e (Some (written.SimpleFirst x)) = e
 
 -- ---- statements

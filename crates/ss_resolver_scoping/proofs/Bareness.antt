@@ -1,4 +1,4 @@
--- What has a link or a postfix behind it is no name.
+-- What has a link or a postfix after it is no name.
 use Rattle.std.proofs.Common.{◌≡◌, None, refl}
 use Rattle.ss_core.specs.declared.names.Place.{Place}
 use Rattle.ss_ast.specs.declared.expr.Expr.TheOpen as shape

@@ -1,4 +1,4 @@
-//! The beginning of a path with what may stand behind it, and the methods with which a program may begin.
+//! The beginning of a path with what may stand after it, and the methods with which a program may begin.
 #![tactic(auto)]
 
 mod mains;

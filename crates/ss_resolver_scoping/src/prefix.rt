@@ -16,14 +16,14 @@ use ss_tables_scopes::{
     name_callee, name_receiver, name_type, read_type,
 };
 
-/// An expression before what may stand behind it.
+/// An expression before what may stand after it.
 #[derive(Clone, Copy)]
 pub enum Prefix<'p> {
     /// A bare name.
     Name(Place, &'p String),
     /// The word `base`.
     Base,
-    /// A member behind a dot, with the place of the bare name before it where one stands there.
+    /// A member after a dot, with the place of the bare name before it where one stands there.
     Member(Option<Place>, Receiver, &'p Name),
     /// Any other expression, with its static type.
     Value(Option<StaticType>),
@@ -113,7 +113,7 @@ pub fn prefix_callee<'p>(
     }
 }
 
-// Which argument of a question behind a dot names a class.
+// Which argument of a question after a dot names a class.
 fn asked_class(name: &str, receiver: Receiver) -> Option<usize>
     ensures { result ≡ asked_class name.now (receiver_of receiver) }
 {

@@ -10,9 +10,9 @@ use Rattle.ss_resolver_rules.specs.Expressions.{expr, args}
 use Rattle.ss_resolver_rules.specs.Statements.{is_line, printed, call_alone, alone}
 use Rattle.ss_resolver_expressions.specs.Environments.{Part, part, part_called}
 use Rattle.ss_resolver_statements.specs.Forms.{is_call, text_of}
-use Rattle.ss_resolver_statements.specs.Alone.{kind_behind, of_kind, part_alone, print_of}
+use Rattle.ss_resolver_statements.specs.Alone.{kind_after, of_kind, part_alone, print_of}
 
-by_receiver : (e : Env) (p : Place) (es : text.Arguments) (x : Part) (n : List ℕ) (r : Receiver) → of_kind e p es x (kind_behind r (is_line n)) ≡ call_alone e p n es r (part_called e p es (args e es) x)
+by_receiver : (e : Env) (p : Place) (es : text.Arguments) (x : Part) (n : List ℕ) (r : Receiver) → of_kind e p es x (kind_after r (is_line n)) ≡ call_alone e p n es r (part_called e p es (args e es) x)
 by_receiver e p es x n TheConsole = refl
 by_receiver e p es x n TheOwner = refl
 by_receiver e p es x n TheBase = refl

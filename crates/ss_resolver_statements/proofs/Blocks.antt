@@ -27,9 +27,9 @@ block_whole s a a1 b ss rs r h e t m =
     ∙ ap (λ (zs : List Stmt). block (env_of s a) (written_block b zs)) e
     ∙ ap (block (env_of s a)) (sym (block_shown b))
 
-pub block_behind : (s : ResolutionContext) (a a1 a2 a3 : LocalContext) (b : Block) (ss : List Stmt) → a1 ≡ entered a → ss ≡ (out-Block b).statements.items
+pub block_after : (s : ResolutionContext) (a a1 a2 a3 : LocalContext) (b : Block) (ss : List Stmt) → a1 ≡ entered a → ss ≡ (out-Block b).statements.items
     → env_of s a2 ≡ behind_all (env_of s a1) (map written.stmt_tree ss) → a3 ≡ left a2 → env_of s a3 ≡ past (env_of s a) (declared_in_block (written.block_tree b))
-block_behind s a a1 a2 a3 b ss h e t l =
+block_after s a a1 a2 a3 b ss h e t l =
     block_left s a a1 a2 a3 (map written.stmt_tree ss) h t l
     ∙ ap (λ (zs : List Stmt). past (env_of s a) (declared_in_block (written_block b zs))) e
     ∙ ap (λ t. past (env_of s a) (declared_in_block t)) (sym (block_shown b))

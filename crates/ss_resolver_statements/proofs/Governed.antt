@@ -71,7 +71,7 @@ for_is s a a1 a2 p i c x es t ri rc rx rs r h hi hc hx b hs g =
     ∙ ap (λ v. ForOf p (first e i) (option_map (expr f) c) (option_map (simple f) x) v r) (hs ∙ ap (λ d. map (expr d) es) e2)
     ∙ ap (λ v. ForOf p (first e i) (option_map (expr f) c) (option_map (simple f) x) (map (expr f) es) v) (g ∙ ap (λ d. stmt (enter d) t) e2)
 
--- the test and the step of a heading, behind what it begins with
+-- the test and the step of a heading, after what it begins with
 pub test_is : (s : ResolutionContext) (a1 : LocalContext) (e : Env) (c : Option text.ExprTree) (rc : Option ExprTree) → env_of s a1 ≡ e → rc ≡ option_map (expr (env_of s a1)) c → rc ≡ option_map (expr e) c
 test_is s a1 e c rc b h = h ∙ ap (λ d. option_map (expr d) c) b
 

@@ -1,4 +1,4 @@
--- A scope that is left gives back the names, and the next local comes behind those that were declared within.
+-- A scope that is left gives back the names, and the next local comes after those that were declared within.
 use Rattle.std.proofs.Common.{ℕ, ◌≡◌, ◌+◌, List, [], ◌∷◌, ◌++◌, length, Option, Some, None, refl, sym, ap, subst, ◌∙◌, arith, length-append}
 use Rattle.std.proofs.lemmas.List.{length-map}
 use Rattle.ss_ast.specs.Expressions.{TypeTree}
@@ -7,7 +7,7 @@ use Rattle.ss_ast.specs.Statements as text
 use Rattle.ss_tables.specs.Named.{Scoped}
 use Rattle.ss_tables.specs.Named as scoped
 use Rattle.ss_tables_scopes.specs.Names.{Names}
-use Rattle.ss_resolver_rules.specs.Names.{Env, enter, declare, declare_all, behind_declaration}
+use Rattle.ss_resolver_rules.specs.Names.{Env, enter, declare, declare_all, after_declaration}
 use Rattle.ss_resolver_rules.specs.declared.known.Known.{Known}
 use Rattle.ss_resolver_rules.specs.Statements.{declared_by, declared_first, declared_in, declared_in_all, past, behind, behind_first}
 use Rattle.ss_resolver_expressions.specs.LocalContext.{LocalContext, entered, left}
@@ -40,33 +40,33 @@ grows_all t (d ∷ ds) e = grows_more e (declare e t d.name) (declare_all (decla
 counted : (e f : Env) (m n : ℕ) → m ≡ n → Grows e f m → Grows e f n
 counted e f m n h g = record { same = g.same; next = g.next ∙ ap (λ k. e.next + k) h }
 
-grows_declaration : (e : Env) (d : DeclarationTree) → Grows e (behind_declaration e d) (length (declared_by d))
-grows_declaration e d = counted e (behind_declaration e d) _ _ (sym (length-map d.declarators _)) (grows_all d.ty d.declarators e)
+grows_declaration : (e : Env) (d : DeclarationTree) → Grows e (after_declaration e d) (length (declared_by d))
+grows_declaration e d = counted e (after_declaration e d) _ _ (sym (length-map d.declarators _)) (grows_all d.ty d.declarators e)
 
 grows_first : (e : Env) (i : Option ForInitTree) → Grows e (behind_first e i) (length (declared_first i))
 grows_first e None = grows_none e
 grows_first e (Some (text.DeclareFirst d)) = grows_declaration e d
 grows_first e (Some (text.SimpleFirst x)) = grows_none e
 
--- behind a statement
-grows_behind : (e : Env) (s : StmtTree) → Grows e (behind e s) (length (declared_in s))
-grows_behind e (text.DeclareOf d) = grows_declaration e d
-grows_behind e (text.InBlock b) = grows_past e _
-grows_behind e (text.SimpleOf x) = grows_none e
-grows_behind e (text.IfOf p c a) = grows_past e _
-grows_behind e (text.IfElseOf p c a b) = grows_past e _
-grows_behind e (text.WhileOf p c es a) = grows_past e _
-grows_behind e (text.ForOf p i c x es a) = grows_past e _
-grows_behind e (text.ReturnOf p c) = grows_none e
-grows_behind e (text.AssertOf p c) = grows_none e
-grows_behind e (text.AssumeOf p c) = grows_none e
-grows_behind e (text.ExposeOf p c n b) = grows_past e _
-grows_behind e (text.EmptyOf p) = grows_none e
+-- after a statement
+grows_after : (e : Env) (s : StmtTree) → Grows e (behind e s) (length (declared_in s))
+grows_after e (text.DeclareOf d) = grows_declaration e d
+grows_after e (text.InBlock b) = grows_past e _
+grows_after e (text.SimpleOf x) = grows_none e
+grows_after e (text.IfOf p c a) = grows_past e _
+grows_after e (text.IfElseOf p c a b) = grows_past e _
+grows_after e (text.WhileOf p c es a) = grows_past e _
+grows_after e (text.ForOf p i c x es a) = grows_past e _
+grows_after e (text.ReturnOf p c) = grows_none e
+grows_after e (text.AssertOf p c) = grows_none e
+grows_after e (text.AssumeOf p c) = grows_none e
+grows_after e (text.ExposeOf p c n b) = grows_past e _
+grows_after e (text.EmptyOf p) = grows_none e
 
-grows_behind_all : (ss : List StmtTree) (e : Env) → Grows e (behind_all e ss) (length (declared_in_all (stmt_trees ss)))
-grows_behind_all [] e = grows_none e
-grows_behind_all (s ∷ ss) e =
-    grows_more e (behind e s) (behind_all (behind e s) ss) _ _ _ (grows_behind e s) (grows_behind_all ss (behind e s)) (length-append (declared_in s) (declared_in_all (stmt_trees ss)))
+grows_after_all : (ss : List StmtTree) (e : Env) → Grows e (behind_all e ss) (length (declared_in_all (stmt_trees ss)))
+grows_after_all [] e = grows_none e
+grows_after_all (s ∷ ss) e =
+    grows_more e (behind e s) (behind_all (behind e s) ss) _ _ _ (grows_after e s) (grows_after_all ss (behind e s)) (length-append (declared_in s) (declared_in_all (stmt_trees ss)))
 
 -- ---- leaving
 
@@ -87,7 +87,7 @@ pub governed_left : (s : ResolutionContext) (a a1 a2 a3 : LocalContext) (t : Stm
 governed_left s a a1 a2 a3 t h b l =
     let e = enter (env_of s a) in
     let is : env_of s a2 ≡ behind e t = b ∙ ap (λ x. behind (env_of s x) t) h in
-    left_scope s a a2 a3 (length (declared_in t)) l (subst (λ f. Grows e f (length (declared_in t))) (sym is) (grows_behind e t))
+    left_scope s a a2 a3 (length (declared_in t)) l (subst (λ f. Grows e f (length (declared_in t))) (sym is) (grows_after e t))
 
 -- a block
 pub block_left : (s : ResolutionContext) (a a1 a2 a3 : LocalContext) (ts : List StmtTree) → a1 ≡ entered a → env_of s a2 ≡ behind_all (env_of s a1) ts → a3 ≡ left a2 → env_of s a3 ≡ past (env_of s a) (declared_in_all (stmt_trees ts))
@@ -95,7 +95,7 @@ block_left s a a1 a2 a3 ts h b l =
     let e = enter (env_of s a) in
     let n = length (declared_in_all (stmt_trees ts)) in
     let is : env_of s a2 ≡ behind_all e ts = b ∙ ap (λ x. behind_all (env_of s x) ts) h in
-    left_scope s a a2 a3 n l (subst (λ f. Grows e f n) (sym is) (grows_behind_all ts e))
+    left_scope s a a2 a3 n l (subst (λ f. Grows e f n) (sym is) (grows_after_all ts e))
 
 -- a `for`
 pub for_left : (s : ResolutionContext) (a a1 a2 a3 a4 : LocalContext) (i : Option ForInitTree) (t : StmtTree) → a1 ≡ entered a → env_of s a2 ≡ behind_first (env_of s a1) i

@@ -11,18 +11,18 @@ use Rattle.ss_resolver_expressions.specs.Environments.{Part, ABareName, ABaseWor
 use Rattle.ss_resolver_statements.specs.declared.simples.Alone.{Alone}
 use Rattle.ss_resolver_statements.specs.declared.simples.Alone.TheVariants.{Print, Base, Call}
 
-abbrev pub kind_behind : Receiver → Bool → Alone
-kind_behind TheConsole line = Print line
-kind_behind TheOwner line = Call
-kind_behind TheBase line = Call
-kind_behind (AClass k) line = Call
-kind_behind (AValue t) line = Call
+abbrev pub kind_after : Receiver → Bool → Alone
+kind_after TheConsole line = Print line
+kind_after TheOwner line = Call
+kind_after TheBase line = Call
+kind_after (AClass k) line = Call
+kind_after (AValue t) line = Call
 
 -- what a call of it alone is
 abbrev pub kind_of : Part → Alone
 kind_of (ABareName p n) = Call
 kind_of (ABaseWord p) = Base
-kind_of (AMember p r t o n) = kind_behind r (is_line n)
+kind_of (AMember p r t o n) = kind_after r (is_line n)
 kind_of (AnOther t x) = Call
 
 abbrev pub of_kind : Env → Place → text.Arguments → Part → Alone → SimpleTree

@@ -8,7 +8,7 @@ use Rattle.ss_resolver_rules.specs.Numbers.{class_id}
 use Rattle.ss_resolver_rules.specs.Names.{Env}
 use Rattle.ss_resolver_rules.specs.Statements.{stmt, behind}
 
--- the environment behind them
+-- the environment after them
 abbrev pub behind_all : Env → List StmtTree → Env
 behind_all e [] = e
 behind_all e (s ∷ ss) = behind_all (behind e s) ss

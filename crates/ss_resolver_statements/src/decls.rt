@@ -5,7 +5,7 @@ ghost use Rattle.ss_ast.specs.Expressions.{name_tree, type_tree, expr_tree};
 ghost use Rattle.ss_ast.specs.Statements.{declarator_tree, declaration_tree};
 ghost use Rattle.ss_ast.specs.Programs.{param_tree};
 ghost use Rattle.ss_typed.specs.View as view;
-ghost use Rattle.ss_resolver_rules.specs.Names.{declare, declare_all, declare_param, declare_params, behind_declaration};
+ghost use Rattle.ss_resolver_rules.specs.Names.{declare, declare_all, declare_param, declare_params, after_declaration};
 ghost use Rattle.ss_resolver_rules.specs.Expressions.{expr};
 ghost use Rattle.ss_resolver_rules.specs.Statements as resolved;
 ghost use Rattle.ss_resolver_expressions.specs.Environments.{env_of};
@@ -95,7 +95,7 @@ pub fn resolve_option<'p>(
     }
 }
 
-// A declarator, behind which its name is in scope.
+// A declarator, after which its name is in scope.
 fn resolve_declarator<'p>(
     context: &ResolutionContext<'_, 'p>,
     names: &mut LocalNames,
@@ -149,14 +149,14 @@ fn resolve_declarators<'p>(
     Ok(list)
 }
 
-/// The declarators of a declaration, behind which their names are in scope.
+/// The declarators of a declaration, after which their names are in scope.
 pub(crate) fn resolve_declaration<'p>(
     context: &ResolutionContext<'_, 'p>,
     names: &mut LocalNames,
     declaration: &'p Declaration,
 ) -> Result<Vec<TypedDeclarator>, AllocError>
     ensures trees { IfOk result (λ v. map view.declarator v.items ≡ resolved.declaration (env_of context.now names.old) (declaration_tree declaration.now)) }
-    ensures behind { OnOk result (env_of context.now names.new ≡ behind_declaration (env_of context.now names.old) (declaration_tree declaration.now)) }
+    ensures behind { OnOk result (env_of context.now names.new ≡ after_declaration (env_of context.now names.old) (declaration_tree declaration.now)) }
 {
     resolve_declarators(context, names, &declaration.ty, &declaration.declarators)
 }

@@ -2,7 +2,7 @@
 
 ghost use Rattle.std.specs.Prelude.{◌≡◌, ◌++◌, ◌∷◌, [], IfSome, IfNone, map, option_map, false};
 ghost use Rattle.ss_ast.specs.Expressions.{CallOf, grouped, arguments, expr_tree};
-ghost use Rattle.ss_ast.specs.Parts.{postfix_behind};
+ghost use Rattle.ss_ast.specs.Parts.{postfix_after};
 ghost use Rattle.ss_resolver_statements.specs.Forms.{is_call, text_of};
 
 use ss_ast::{Expr, Postfix};
@@ -24,9 +24,9 @@ fn call_by_last<'p>(
     front: &'p [Postfix],
     last: &'p Postfix,
 ) -> Option<WrittenCall<'p>>
-    ensures some { IfSome result (λ c. postfix_behind last.now place (grouped place (expr_tree first.now) (map postfix_behind front.now))
-        ≡ CallOf c.place (grouped c.place (expr_tree c.first.now) (map postfix_behind c.front.now)) (arguments (map expr_tree c.written.now))) }
-    ensures none { IfNone result (is_call (postfix_behind last.now place (grouped place (expr_tree first.now) (map postfix_behind front.now))) ≡ false) }
+    ensures some { IfSome result (λ c. postfix_after last.now place (grouped place (expr_tree first.now) (map postfix_after front.now))
+        ≡ CallOf c.place (grouped c.place (expr_tree c.first.now) (map postfix_after c.front.now)) (arguments (map expr_tree c.written.now))) }
+    ensures none { IfNone result (is_call (postfix_after last.now place (grouped place (expr_tree first.now) (map postfix_after front.now))) ≡ false) }
 {
     match last {
         Postfix::Call(written) => Some(WrittenCall {
@@ -52,7 +52,7 @@ fn split_last(postfixes: &[Postfix]) -> Option<(&Postfix, &[Postfix])>
 
 /// The call that an expression is.
 pub(crate) fn call_in(e: &Expr) -> Option<WrittenCall<'_>>
-    ensures some { IfSome result (λ c. expr_tree e.now ≡ CallOf c.place (grouped c.place (expr_tree c.first.now) (map postfix_behind c.front.now)) (arguments (map expr_tree c.written.now))) }
+    ensures some { IfSome result (λ c. expr_tree e.now ≡ CallOf c.place (grouped c.place (expr_tree c.first.now) (map postfix_after c.front.now)) (arguments (map expr_tree c.written.now))) }
     ensures none { IfNone result (is_call (expr_tree e.now) ≡ false) }
 {
     match e {

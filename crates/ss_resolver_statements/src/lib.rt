@@ -1,4 +1,4 @@
-//! The resolved statements of a body, each in the environment behind those before it, and the nodes that they are made of.
+//! The resolved statements of a body, each in the environment after those before it, and the nodes that they are made of.
 #![tactic(auto)]
 
 mod built;

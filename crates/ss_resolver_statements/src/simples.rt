@@ -9,9 +9,9 @@ ghost use Rattle.ss_typed.specs.View as view;
 ghost use Rattle.ss_resolver_rules.specs.Expressions.{args};
 ghost use Rattle.ss_resolver_rules.specs.Statements.{is_line, printed, print, alone, behind_first};
 ghost use Rattle.ss_resolver_rules.specs.Statements as resolved;
-ghost use Rattle.ss_ast.specs.Parts.{postfix_behind};
+ghost use Rattle.ss_ast.specs.Parts.{postfix_after};
 ghost use Rattle.ss_resolver_expressions.specs.Environments.{env_of, part, part_view, part_called};
-ghost use Rattle.ss_resolver_statements.specs.Alone.{kind_behind, kind_of, part_alone};
+ghost use Rattle.ss_resolver_statements.specs.Alone.{kind_after, kind_of, part_alone};
 ghost use Rattle.ss_resolver_statements.specs.Boxes as boxes;
 
 use crate::built_simples::{
@@ -41,8 +41,8 @@ pub enum Alone {
     Call,
 }
 
-fn kind_behind(receiver: Receiver, name: &str) -> Alone
-    ensures { result ≡ kind_behind (receiver_of receiver) (is_line name.now) }
+fn kind_after(receiver: Receiver, name: &str) -> Alone
+    ensures { result ≡ kind_after (receiver_of receiver) (is_line name.now) }
 {
     match receiver {
         Receiver::Console => Alone::Print(name == "WriteLine"),
@@ -56,7 +56,7 @@ fn kind_of(part: &Part<'_>) -> Alone
 {
     match part {
         Part::Base(_) => Alone::Base,
-        Part::Member { receiver, name, .. } => kind_behind(*receiver, name),
+        Part::Member { receiver, name, .. } => kind_after(*receiver, name),
         Part::Name(..) | Part::Other(..) => Alone::Call,
     }
 }
@@ -165,7 +165,7 @@ fn resolve_path_call<'p>(
     written: &'p [Expr],
 ) -> Result<Box<TypedSimple>, AllocError>
     ensures tree { IfOk result (λ s. view.simple_of s.value ≡ part_alone (env_of context.now names.old) place (arguments (map expr_tree written.now))
-        (part (env_of context.now names.old) (grouped place (expr_tree first.now) (map postfix_behind front.now)))) }
+        (part (env_of context.now names.old) (grouped place (expr_tree first.now) (map postfix_after front.now)))) }
     ensures kept { OnOk result (names.new ≡ names.old) }
 {
     let first = walk(context, names, first)?;

@@ -28,7 +28,7 @@ use ss_tables_lookup::Tables;
 use ss_typed::{TypedBlock, TypedStmt};
 use std::alloc::AllocError;
 
-// The class behind `at`.
+// The class after `at`.
 fn class_at(tables: &Tables<'_>, name: &Option<Name>) -> Option<ClassId>
     requires { HasFewClasses (trees tables.now) }
     ensures { option_map (λ t. t.0) result ≡ class_at (trees tables.now) (option_map name_tree name.now) }
@@ -117,7 +117,7 @@ struct WrittenHeading<'p> {
     step: &'p Option<Simple>,
 }
 
-// The heading of a `for`, behind which its names are in scope.
+// The heading of a `for`, after which its names are in scope.
 fn resolve_heading<'p>(
     context: &ResolutionContext<'_, 'p>,
     names: &mut LocalNames,

@@ -8,7 +8,7 @@ use Rattle.ss_ast.specs.Statements.{SimpleTree, ForInitTree, StmtTree, BlockTree
 use Rattle.ss_ast.specs.Programs.{ClauseTree, BaseCallTree, ClassTree}
 use Rattle.ss_tables.specs.Words.{is_state_word}
 use Rattle.ss_tables.specs.Types.{class_of}
-use Rattle.ss_tables.specs.Scopes.{Scope, local_named, enter, behind_init}
+use Rattle.ss_tables.specs.Scopes.{Scope, local_named, enter, after_init}
 use Rattle.ss_tables_lookup.specs.Views.{type_of}
 use Rattle.ss_faults.specs.declared.Fault.{Fault}
 use Rattle.ss_resolver_types_heads.specs.declared.heads.Form.TheVariants as form
@@ -74,8 +74,8 @@ heading_faults b s e x es = test_faults b s e ++ step_faults b s x ++ conditions
 -- the whole, in the scope of its heading
 abbrev pub for_faults : Body → Scope → Option ForInitTree → Option ExprTree → Option SimpleTree → List ExprTree → StmtTree → List Fault
 for_faults b s i e x es y =
-    init_faults b s i ++ test_faults b (behind_init s i) e ++ step_faults b (behind_init s i) x ++ conditions b (behind_init s i) es
-    ++ stmt_faults b (enter (behind_init s i)) y
+    init_faults b s i ++ test_faults b (after_init s i) e ++ step_faults b (after_init s i) x ++ conditions b (after_init s i) es
+    ++ stmt_faults b (enter (after_init s i)) y
 
 -- ---- `base(..)`
 

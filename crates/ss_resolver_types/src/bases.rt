@@ -8,7 +8,7 @@ ghost use Rattle.ss_tables.specs.Scopes.{local_named};
 ghost use Rattle.ss_tables_lookup.specs.Classes.{trees};
 ghost use Rattle.ss_tables_scopes.specs.Names.{Names};
 ghost use Rattle.ss_tables_scopes.specs.Views.{scope_of};
-ghost use Rattle.ss_ast.specs.Parts.{postfix_behind};
+ghost use Rattle.ss_ast.specs.Parts.{postfix_after};
 ghost use Rattle.ss_resolver_types_expressions.specs.Members.{base_call, is_this, has_field, is_own_field, is_first_assignment, calls_base};
 ghost use Rattle.ss_resolver_types.specs.Bodies.{is_base, base_arguments};
 
@@ -110,7 +110,7 @@ fn names_own_field(context: ClassContext<'_, '_>, locals: &Scopes, name: &str) -
     locals.find(name).is_none() && has_field(context.tables, context.class, name)
 }
 
-// Whether a name behind this means such a field.
+// Whether a name after this means such a field.
 fn is_field_of(context: ClassContext<'_, '_>, first: &Expr, name: &str) -> bool
     ensures { result ≡ (is_this (expr_tree first.now) && has_field (trees context.entry.tables.now) context.entry.class name.now) }
 {
@@ -119,7 +119,7 @@ fn is_field_of(context: ClassContext<'_, '_>, first: &Expr, name: &str) -> bool
 
 // Whether one postfix makes such a field of this.
 fn is_own_member(context: ClassContext<'_, '_>, first: &Expr, postfix: &Postfix) -> bool
-    ensures { (locals : Names) (at : Place) → result ≡ is_own_field context.entry.class (scope_of context.entry locals) (postfix_behind postfix.now at (expr_tree first.now)) }
+    ensures { (locals : Names) (at : Place) → result ≡ is_own_field context.entry.class (scope_of context.entry locals) (postfix_after postfix.now at (expr_tree first.now)) }
 {
     match postfix {
         Postfix::Member(name) => is_field_of(context, first, name.text.as_str()),
@@ -131,7 +131,7 @@ fn is_own_member(context: ClassContext<'_, '_>, first: &Expr, postfix: &Postfix)
 #[tactic(auto, using(crate::proofs::Paths::own_one, crate::proofs::Paths::own_long))]
 fn is_own_path(context: ClassContext<'_, '_>, first: &Expr, postfixes: &[Postfix]) -> bool
     ensures { (locals : Names) (at : Place) → 0 < length postfixes.now
-        → result ≡ is_own_field context.entry.class (scope_of context.entry locals) (grouped at (expr_tree first.now) (map postfix_behind postfixes.now)) }
+        → result ≡ is_own_field context.entry.class (scope_of context.entry locals) (grouped at (expr_tree first.now) (map postfix_after postfixes.now)) }
 {
     match postfixes {
         [postfix] => is_own_member(context, first, postfix),
@@ -218,7 +218,7 @@ fn postfix_arguments<'e>(
     first: &Expr,
     postfix: &'e Postfix,
 ) -> Option<(Place, &'e [Expr])>
-    ensures { option_map (λ r. (r.0, arguments (map expr_tree r.1.now))) result ≡ base_arguments (postfix_behind postfix.now place (expr_tree first.now)) }
+    ensures { option_map (λ r. (r.0, arguments (map expr_tree r.1.now))) result ≡ base_arguments (postfix_after postfix.now place (expr_tree first.now)) }
 {
     match postfix {
         Postfix::Call(list) => called_arguments(place, first, list.as_slice()),
@@ -234,7 +234,7 @@ fn path_arguments<'e>(
     postfixes: &'e [Postfix],
 ) -> Option<(Place, &'e [Expr])>
     ensures { 0 < length postfixes.now
-        → option_map (λ r. (r.0, arguments (map expr_tree r.1.now))) result ≡ base_arguments (grouped place (expr_tree first.now) (map postfix_behind postfixes.now)) }
+        → option_map (λ r. (r.0, arguments (map expr_tree r.1.now))) result ≡ base_arguments (grouped place (expr_tree first.now) (map postfix_after postfixes.now)) }
 {
     match postfixes {
         [postfix] => postfix_arguments(place, first, postfix),

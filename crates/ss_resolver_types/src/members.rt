@@ -48,7 +48,7 @@ fn note_words(found: &mut Vec<Fault>, words: &[Modifier]) -> Result<(), AllocErr
     Ok(())
 }
 
-fn note_behind_first(found: &mut Vec<Fault>, words: &[Modifier]) -> Result<(), AllocError>
+fn note_after_first(found: &mut Vec<Fault>, words: &[Modifier]) -> Result<(), AllocError>
     ensures { OnOk result (found.new.items ≡ found.old.items ++ map (λ (w : Modifier). bad_type w.place) (drop 1 words.now)) }
 {
     match words {
@@ -62,7 +62,7 @@ fn note_surplus(found: &mut Vec<Fault>, member: &Member) -> Result<(), AllocErro
     ensures { OnOk result (found.new.items ≡ found.old.items ++ surplus_words (member_tree member.now)) }
 {
     match &member.kind {
-        MemberKind::Method(_) => note_behind_first(found, &member.modifiers),
+        MemberKind::Method(_) => note_after_first(found, &member.modifiers),
         MemberKind::Fields(_) | MemberKind::Invariant(_) | MemberKind::Constructor(_) => {
             note_words(found, &member.modifiers)
         }
@@ -306,7 +306,7 @@ fn check_outermost(
     }
 }
 
-// Whether `base(..)` may still stand behind a statement.
+// Whether `base(..)` may still stand after a statement.
 fn may_still_call(may_call: bool, body: &Body<'_, '_>, locals: &Scopes, stmt: &Stmt) -> bool
     ensures { result ≡ (may_call && is_first_assignment body.now.within.class (scope_of body.now.within locals.now) (stmt_tree stmt.now)) }
 {

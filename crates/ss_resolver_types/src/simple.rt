@@ -128,7 +128,7 @@ fn is_length_of(name: &str, class: Option<usize>) -> bool
     }
 }
 
-/// Whether a name behind a dot may be assigned.
+/// Whether a name after a dot may be assigned.
 pub fn is_member_target(before: Known, name: &str) -> bool
     ensures { result ≡ (not (is_state_word name.now) && not (is_length_of name.now (option_and_then class_of (known_of before).ty))) }
 {

@@ -3,7 +3,7 @@
 ghost use Rattle.std.specs.Prelude.{◌≡◌, ◌++◌, ◌∷◌, [], OnOk, map, option_map};
 ghost use Rattle.ss_ast.specs.Expressions.{expr_tree, name_tree, type_tree};
 ghost use Rattle.ss_ast.specs.Statements.{declarator_tree, declaration_tree, simple_tree, for_init_tree, block_tree, stmt_tree, stmt_trees};
-ghost use Rattle.ss_tables.specs.Scopes.{enter, behind, behind_init, behind_declaration, declare_all, declare_local};
+ghost use Rattle.ss_tables.specs.Scopes.{enter, behind, after_init, after_declaration, declare_all, declare_local};
 ghost use Rattle.ss_tables_lookup.specs.Classes.{trees};
 ghost use Rattle.ss_tables_scopes.specs.Views.{scope_of};
 ghost use Rattle.ss_resolver_types_expressions.specs.Statements.{initial_faults, declarator_faults, declaration_faults, init_faults, test_faults, step_faults, return_faults, exposed_want, in_code, stmt_faults, block_faults, stmts_faults};
@@ -90,7 +90,7 @@ fn check_declaration(
     declaration: &Declaration,
 ) -> Result<(), AllocError>
     ensures noted { OnOk result (found.new.items ≡ found.old.items ++ declaration_faults (body_of body.now) (scope_of body.now.within locals.old) (declaration_tree declaration.now)) }
-    ensures scope { OnOk result (scope_of body.now.within locals.new ≡ behind_declaration (scope_of body.now.within locals.old) (declaration_tree declaration.now)) }
+    ensures scope { OnOk result (scope_of body.now.within locals.new ≡ after_declaration (scope_of body.now.within locals.old) (declaration_tree declaration.now)) }
     ensures outer { OnOk result (locals.new.outer ≡ locals.old.outer) }
 {
     note_mark(found, &declaration.ty)?;
@@ -111,7 +111,7 @@ fn check_init(
     init: &Option<ForInit>,
 ) -> Result<(), AllocError>
     ensures noted { OnOk result (found.new.items ≡ found.old.items ++ init_faults (body_of body.now) (scope_of body.now.within locals.old) (option_map for_init_tree init.now)) }
-    ensures scope { OnOk result (scope_of body.now.within locals.new ≡ behind_init (scope_of body.now.within locals.old) (option_map for_init_tree init.now)) }
+    ensures scope { OnOk result (scope_of body.now.within locals.new ≡ after_init (scope_of body.now.within locals.old) (option_map for_init_tree init.now)) }
     ensures outer { OnOk result (locals.new.outer ≡ locals.old.outer) }
 {
     match init {
@@ -232,7 +232,7 @@ fn exposed_want(tables: &Tables<'_>, name: &Option<Name>) -> Want
     }
 }
 
-/// A statement; a declaration changes what is in scope behind it.
+/// A statement; a declaration changes what is in scope after it.
 #[cycle(stmt)]
 pub fn check_stmt(
     body: &Body<'_, '_>,

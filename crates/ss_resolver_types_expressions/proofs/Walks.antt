@@ -11,7 +11,7 @@ use Rattle.ss_tables.specs.Scopes.{Local}
 use Rattle.ss_tables_scopes.specs.Names.{Names}
 use Rattle.ss_tables.specs.Named.{entered, left, with_name}
 use Rattle.ss_resolver_types_heads.specs.declared.context.ExprContext.{ExprContext as CodeContext}
-use Rattle.ss_ast.specs.Parts.{link_behind, postfix_behind}
+use Rattle.ss_ast.specs.Parts.{link_after, postfix_after}
 use Rattle.ss_resolver_types_heads.specs.Wants.{Known, known}
 use Rattle.ss_resolver_types_heads.specs.Expressions.{AsValue, AsCallee, faults}
 use Rattle.ss_resolver_types_heads.specs.Heads.{Head, ending, known_at, rest_read, IsWalked, Leads}
@@ -37,34 +37,34 @@ noted_read a n0 n1 h e f0 f1 f2 same is p q =
 pub chain_walked : (a : CodeContext) (n0 n1 : Names) (f0 f1 f2 : List Fault) (h0 h1 : Head) (p : Place) (first : Box Expr Global) (links : Vec Link Global) (e f : Expr) (ls : List Link)
     → e ≡ view.Chain p first links → f ≡ first.value → ls ≡ links.items → n1 ≡ n0
     → h0 ≡ ending (context_of a n0).scope (expr_tree f) → f1 ≡ f0 ++ faults (context_of a n0) AsCallee (expr_tree f)
-    → Leads (context_of a n1) f1 h0 f2 h1 (λ x. grouped p x (map link_behind ls))
+    → Leads (context_of a n1) f1 h0 f2 h1 (λ x. grouped p x (map link_after ls))
     → IsWalked (context_of a n0) f0 f2 h1 (expr_tree e)
 chain_walked a n0 n1 f0 f1 f2 h0 h1 p first links e f ls is f_is ls_is same h q leads =
-    let whole : expr_tree e ≡ grouped p (expr_tree f) (map link_behind ls) =
+    let whole : expr_tree e ≡ grouped p (expr_tree f) (map link_after ls) =
     ap expr_tree is ∙ chain_is p first links
-    ∙ ap (λ (x : Expr). grouped p (expr_tree x) (map link_behind links.items)) (sym f_is)
-    ∙ ap (λ (xs : List Link). grouped p (expr_tree f) (map link_behind xs)) (sym ls_is) in
+    ∙ ap (λ (x : Expr). grouped p (expr_tree x) (map link_after links.items)) (sym f_is)
+    ∙ ap (λ (xs : List Link). grouped p (expr_tree f) (map link_after xs)) (sym ls_is) in
     let w : IsWalked (context_of a n0) f0 f1 h0 (expr_tree f) = record { is = h; noted = q } in
     let there = leads.on (expr_tree f) f0 (subst (λ (n : Names). IsWalked (context_of a n) f0 f1 h0 (expr_tree f)) (sym same) w) in
     subst (λ (t : ExprTree). IsWalked (context_of a n0) f0 f2 h1 t) (sym whole)
-    (subst (λ (n : Names). IsWalked (context_of a n) f0 f2 h1 (grouped p (expr_tree f) (map link_behind ls))) same there)
+    (subst (λ (n : Names). IsWalked (context_of a n) f0 f2 h1 (grouped p (expr_tree f) (map link_after ls))) same there)
 
 pub path_walked : (a : CodeContext) (n0 n1 : Names) (f0 f1 f2 : List Fault) (h0 h1 : Head) (p : Place) (first : Box Expr Global) (postfixes : Vec Postfix Global) (e f : Expr) (ls : List Postfix)
     → e ≡ view.Path p first postfixes → f ≡ first.value → ls ≡ postfixes.items → n1 ≡ n0
     → h0 ≡ ending (context_of a n0).scope (expr_tree f) → f1 ≡ f0 ++ faults (context_of a n0) AsCallee (expr_tree f)
-    → Leads (context_of a n1) f1 h0 f2 h1 (λ x. grouped p x (map postfix_behind ls))
+    → Leads (context_of a n1) f1 h0 f2 h1 (λ x. grouped p x (map postfix_after ls))
     → IsWalked (context_of a n0) f0 f2 h1 (expr_tree e)
 path_walked a n0 n1 f0 f1 f2 h0 h1 p first postfixes e f ls is f_is ls_is same h q leads =
-    let whole : expr_tree e ≡ grouped p (expr_tree f) (map postfix_behind ls) =
+    let whole : expr_tree e ≡ grouped p (expr_tree f) (map postfix_after ls) =
     ap expr_tree is ∙ path_is p first postfixes
-    ∙ ap (λ (x : Expr). grouped p (expr_tree x) (map postfix_behind postfixes.items)) (sym f_is)
-    ∙ ap (λ (xs : List Postfix). grouped p (expr_tree f) (map postfix_behind xs)) (sym ls_is) in
+    ∙ ap (λ (x : Expr). grouped p (expr_tree x) (map postfix_after postfixes.items)) (sym f_is)
+    ∙ ap (λ (xs : List Postfix). grouped p (expr_tree f) (map postfix_after xs)) (sym ls_is) in
     let w : IsWalked (context_of a n0) f0 f1 h0 (expr_tree f) = record { is = h; noted = q } in
     let there = leads.on (expr_tree f) f0 (subst (λ (n : Names). IsWalked (context_of a n) f0 f1 h0 (expr_tree f)) (sym same) w) in
     subst (λ (t : ExprTree). IsWalked (context_of a n0) f0 f2 h1 t) (sym whole)
-    (subst (λ (n : Names). IsWalked (context_of a n) f0 f2 h1 (grouped p (expr_tree f) (map postfix_behind ls))) same there)
+    (subst (λ (n : Names). IsWalked (context_of a n) f0 f2 h1 (grouped p (expr_tree f) (map postfix_after ls))) same there)
 
--- one more part behind those that a loop has gone over
+-- one more part after those that a loop has gone over
 pub part_leads : {X : Type 0} (behind : X → Behind) (a : CodeContext) (n0 n : Names) (f0 f1 f2 : List Fault) (h0 h1 h2 : Head) (p : Place) (xs : List X) (i : ℕ) (x : X)
     → n ≡ n0 → i < length xs → x ≡ get_or xs i x
     → Leads (context_of a n) f1 h1 f2 h2 (behind x p)

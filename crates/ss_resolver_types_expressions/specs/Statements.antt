@@ -10,7 +10,7 @@ use Rattle.ss_ast.specs.Programs.{ClassTree}
 use Rattle.ss_tables.specs.Words.{is_state_word, is_length}
 use Rattle.ss_tables.specs.Classes.{class_named, class_number, is_array_number}
 use Rattle.ss_tables.specs.Types.{written_type, class_of}
-use Rattle.ss_tables.specs.Scopes.{Scope, enter, declare_local, behind, behind_init}
+use Rattle.ss_tables.specs.Scopes.{Scope, enter, declare_local, behind, after_init}
 use Rattle.ss_tables.specs.Statics.{callee, static}
 use Rattle.ss_faults.specs.declared.Fault.{Fault}
 use Rattle.ss_resolver_types_heads.specs.Faults.{bad_type, fault_where}
@@ -141,8 +141,8 @@ abbrev mutual
   stmt_faults b s (tree.IfElseOf p e x y) = test b s e ++ stmt_faults b (enter s) x ++ stmt_faults b (enter s) y
   stmt_faults b s (tree.WhileOf p e es x) = test b s e ++ conditions b s es ++ stmt_faults b (enter s) x
   stmt_faults b s (tree.ForOf p i e x es y) =
-      init_faults b (enter s) i ++ test_faults b (behind_init (enter s) i) e ++ step_faults b (behind_init (enter s) i) x
-      ++ conditions b (behind_init (enter s) i) es ++ stmt_faults b (enter (behind_init (enter s) i)) y
+      init_faults b (enter s) i ++ test_faults b (after_init (enter s) i) e ++ step_faults b (after_init (enter s) i) x
+      ++ conditions b (after_init (enter s) i) es ++ stmt_faults b (enter (after_init (enter s) i)) y
   stmt_faults b s (tree.ReturnOf p e) = return_faults b s p e
   stmt_faults b s (tree.AssertOf p e) = condition b s e
   stmt_faults b s (tree.AssumeOf p e) = condition b s e

@@ -10,7 +10,7 @@ ghost use Rattle.ss_tables_scopes.specs.Names.{Names};
 ghost use Rattle.ss_tables_scopes.specs.Views.{callee_of};
 ghost use Rattle.ss_tables_lookup.specs.Classes.{trees};
 ghost use Rattle.ss_tables_lookup.specs.Views.{type_of};
-ghost use Rattle.ss_ast.specs.Parts.{link_behind, postfix_behind};
+ghost use Rattle.ss_ast.specs.Parts.{link_after, postfix_after};
 ghost use Rattle.ss_resolver_types_heads.specs.Faults.{bad_type, call_in_condition, fault_where};
 ghost use Rattle.ss_resolver_types_heads.specs.Wants.{AnInt, ABool, AReference, AnyValue, known, bare};
 ghost use Rattle.ss_resolver_types_heads.specs.Calls.{wants_of, whole_call, argument_wants};
@@ -396,7 +396,7 @@ fn check_bound(
     Ok(())
 }
 
-// The links of a chain, behind its first operand.
+// The links of a chain, after its first operand.
 #[cycle(expr)]
 fn walk_links<'e>(
     context: &ExprContext<'_, '_>,
@@ -407,7 +407,7 @@ fn walk_links<'e>(
     links: &'e [Link],
 ) -> Result<Head<'e>, AllocError>
     ensures walked { IfOk result (λ h. Leads (context_of context.now locals.old) found.old.items (head_of first.entry) found.new.items (head_of h)
-        (λ (e : ExprTree). grouped place e (map link_behind links.now))) }
+        (λ (e : ExprTree). grouped place e (map link_after links.now))) }
     ensures same { OnOk result (locals.new ≡ locals.old) }
 {
     let mut head = first;
@@ -427,7 +427,7 @@ fn walk_link<'e>(
     link: &'e Link,
 ) -> Result<Head<'e>, AllocError>
     ensures walked { IfOk result (λ h. Leads (context_of context.now locals.old) found.old.items (head_of head.entry) found.new.items (head_of h)
-        (link_behind link.now place)) }
+        (link_after link.now place)) }
     ensures same { OnOk result (locals.new ≡ locals.old) }
 {
     let known = link_type(context.within, link);
@@ -459,7 +459,7 @@ struct PlacedOperator {
     operator: Operator,
 }
 
-// An operation behind its first operand.
+// An operation after its first operand.
 #[cycle(expr)]
 fn check_operation(
     context: &ExprContext<'_, '_>,
@@ -479,7 +479,7 @@ fn check_operation(
     Ok(())
 }
 
-// The postfixes of a path, behind what it begins with.
+// The postfixes of a path, after what it begins with.
 #[cycle(expr)]
 fn walk_postfixes<'e>(
     context: &ExprContext<'_, '_>,
@@ -490,7 +490,7 @@ fn walk_postfixes<'e>(
     postfixes: &'e [Postfix],
 ) -> Result<Head<'e>, AllocError>
     ensures walked { IfOk result (λ h. Leads (context_of context.now locals.old) found.old.items (head_of first.entry) found.new.items (head_of h)
-        (λ (e : ExprTree). grouped place e (map postfix_behind postfixes.now))) }
+        (λ (e : ExprTree). grouped place e (map postfix_after postfixes.now))) }
     ensures same { OnOk result (locals.new ≡ locals.old) }
 {
     let mut head = first;
@@ -510,7 +510,7 @@ fn walk_postfix<'e>(
     postfix: &'e Postfix,
 ) -> Result<Head<'e>, AllocError>
     ensures walked { IfOk result (λ h. Leads (context_of context.now locals.old) found.old.items (head_of head.entry) found.new.items (head_of h)
-        (postfix_behind postfix.now place)) }
+        (postfix_after postfix.now place)) }
     ensures same { OnOk result (locals.new ≡ locals.old) }
 {
     match postfix {

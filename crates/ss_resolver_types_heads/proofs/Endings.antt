@@ -9,7 +9,7 @@ use Rattle.ss_ast.specs.declared.expr.TypeRef.{TypeRef}
 use Rattle.ss_ast.specs.declared.expr.Link.{Link}
 use Rattle.ss_ast.specs.declared.expr.Link.TheVariants as link
 use Rattle.ss_ast.specs.Expressions.{NameTree, TypeTree, ExprTree, Arguments, BinaryOf, IsOf, AsOf, MemberOf, ElementOf, CallOf, BaseOf, NameOf, expr_tree, type_tree}
-use Rattle.ss_ast.specs.Parts.{link_behind}
+use Rattle.ss_ast.specs.Parts.{link_after}
 use Rattle.ss_ast.proofs.Grouping.{operation_is, is_is, as_is}
 use Rattle.ss_tables.specs.Types.{class_of, element_type}
 use Rattle.ss_tables.specs.Scopes.{Scope}
@@ -53,7 +53,7 @@ dot_is a (BaseOf p) = refl
 dot_is a (MemberOf p e n) = ap (λ (l : List Fault). l ++ rest_dot a (ending a.scope (MemberOf p e n))) (append-nil (faults a BeforeDot e ++ word_faults a.scope.classes (known a.scope e) n.text (receiver a.scope e (static a.scope e))))
 dot_is a e = append-nil (faults a AsCallee e)
 
--- one list behind another
+-- one list after another
 pub joined : (before mid now x y : List Fault) → mid ≡ before ++ x → now ≡ mid ++ y → now ≡ before ++ (x ++ y)
 joined before mid now x y p q = q ∙ ap (λ l. l ++ y) p ∙ append_assoc before x y
 
@@ -157,7 +157,7 @@ pub as_walked : (a : ExprContext) (before f0 f1 : List Fault) (h out : Head) (e 
     → IsWalked a before f1 out (AsOf p e t)
 as_walked a before f0 f1 h out e p t o w q = record { is = o; noted = test_noted a before f0 f1 h e t w q }
 
--- ---- one part more, behind any expression
+-- ---- one part more, after any expression
 
 pub dot_leads : (a : ExprContext) (f0 f1 : List Fault) (h out : Head) (p : Place) (n : NameTree)
     → out ≡ dotted a.scope p h n → f1 ≡ f0 ++ dot_faults a h n → Leads a f0 h f1 out (λ e. MemberOf p e n)
@@ -177,14 +177,14 @@ call_leads a f0 f1 h out p es k b d n k_is b_is n_is d_is o q =
     ∙ ap (λ x. f0 ++ call_faults a p (not (is_question (callee_at a.scope h))) x es) (d_is ∙ ap (λ m. called_at a m h) n_is) in
     record { on = λ e before w. call_walked a before f0 f1 h out e p es made w found }
 
--- ---- a link more, behind any expression
+-- ---- a link more, after any expression
 
--- what stands behind, by its form
+-- what stands after, by its form
 led : (a : ExprContext) (f0 f1 : List Fault) (h out : Head) (behind shape : ExprTree → ExprTree) → ((e : ExprTree) → behind e ≡ shape e)
     → Leads a f0 h f1 out shape → Leads a f0 h f1 out behind
 led a f0 f1 h out behind shape same leads = record { on = λ e before w. subst (λ (u : ExprTree). IsWalked a before f1 out u) (sym (same e)) (leads.on e before w) }
 
--- what is known of it, where its type is that of each expression with the link behind it
+-- what is known of it, where its type is that of each expression with the link after it
 typed : (s : Scope) (p : Place) (t : Option Ty) (out : Head) (behind shape : ExprTree → ExprTree) → ((e : ExprTree) → behind e ≡ shape e)
     → out ≡ AValueOf form.Other (value_at p t) → ((e : ExprTree) → t ≡ static s (behind e)) → (e : ExprTree) → out ≡ AValueOf form.Other (value_at p (static s (shape e)))
 typed s p t out behind shape same made is e = made ∙ ap (λ (u : Option Ty). AValueOf form.Other (value_at p u)) (is e ∙ ap (static s) (same e))
@@ -199,31 +199,31 @@ operation_noted a f0 f1 f2 f3 h p want f v w left q right r t =
     (t ∙ ap (λ x. f2 ++ operand_faults a.scope.classes p want x w) left ∙ ap (λ x. f2 ++ operand_faults a.scope.classes p want (known_at a.scope h) x) right)
 
 pub operation_leads : (a : ExprContext) (f0 f1 : List Fault) (h out : Head) (l : Link) (p : Place) (o : Operator) (b : Expr) (t : Option Ty)
-    → l ≡ link.Operation o b → out ≡ AValueOf form.Other (value_at p t) → ((e : ExprTree) → t ≡ static a.scope (link_behind l p e))
-    → f1 ≡ f0 ++ operation_faults a p (operand o) h (expr_tree b) → Leads a f0 h f1 out (link_behind l p)
+    → l ≡ link.Operation o b → out ≡ AValueOf form.Other (value_at p t) → ((e : ExprTree) → t ≡ static a.scope (link_after l p e))
+    → f1 ≡ f0 ++ operation_faults a p (operand o) h (expr_tree b) → Leads a f0 h f1 out (link_after l p)
 operation_leads a f0 f1 h out l p o b t is made has_type noted =
     let f = expr_tree b in
     let read = f0 ++ rest_read a h in
-    let same : (e : ExprTree) → link_behind l p e ≡ BinaryOf p o e f = λ e. ap (λ (m : Link). link_behind m p e) is ∙ operation_is o b p e in
+    let same : (e : ExprTree) → link_after l p e ≡ BinaryOf p o e f = λ e. ap (λ (m : Link). link_after m p e) is ∙ operation_is o b p e in
     let put = noted ∙ regrouped f0 (rest_read a h) (faults a AsValue f) (operand_faults a.scope.classes p (operand o) (known_at a.scope h) (known a.scope f)) in
-    led a f0 f1 h out (link_behind l p) (λ e. BinaryOf p o e f) same (record {
-      on = λ e before w. operation_walked a before f0 read (read ++ faults a AsValue f) f1 h out e f p o (typed a.scope p t out (link_behind l p) (λ e. BinaryOf p o e f) same made has_type e) w refl refl put;
+    led a f0 f1 h out (link_after l p) (λ e. BinaryOf p o e f) same (record {
+      on = λ e before w. operation_walked a before f0 read (read ++ faults a AsValue f) f1 h out e f p o (typed a.scope p t out (link_after l p) (λ e. BinaryOf p o e f) same made has_type e) w refl refl put;
     })
 
 pub is_leads : (a : ExprContext) (f0 f1 : List Fault) (h out : Head) (l : Link) (p : Place) (c : TypeRef) (t : Option Ty)
-    → l ≡ link.Is c → out ≡ AValueOf form.Other (value_at p t) → ((e : ExprTree) → t ≡ static a.scope (link_behind l p e))
-    → f1 ≡ f0 ++ class_test_faults a h (type_tree c) → Leads a f0 h f1 out (link_behind l p)
+    → l ≡ link.Is c → out ≡ AValueOf form.Other (value_at p t) → ((e : ExprTree) → t ≡ static a.scope (link_after l p e))
+    → f1 ≡ f0 ++ class_test_faults a h (type_tree c) → Leads a f0 h f1 out (link_after l p)
 is_leads a f0 f1 h out l p c t is made has_type noted =
-    let same : (e : ExprTree) → link_behind l p e ≡ IsOf p e (type_tree c) = λ e. ap (λ (m : Link). link_behind m p e) is ∙ is_is c p e in
-    led a f0 f1 h out (link_behind l p) (λ e. IsOf p e (type_tree c)) same (record {
-      on = λ e before w. is_walked a before f0 f1 h out e p (type_tree c) (typed a.scope p t out (link_behind l p) (λ e. IsOf p e (type_tree c)) same made has_type e) w noted;
+    let same : (e : ExprTree) → link_after l p e ≡ IsOf p e (type_tree c) = λ e. ap (λ (m : Link). link_after m p e) is ∙ is_is c p e in
+    led a f0 f1 h out (link_after l p) (λ e. IsOf p e (type_tree c)) same (record {
+      on = λ e before w. is_walked a before f0 f1 h out e p (type_tree c) (typed a.scope p t out (link_after l p) (λ e. IsOf p e (type_tree c)) same made has_type e) w noted;
     })
 
 pub as_leads : (a : ExprContext) (f0 f1 : List Fault) (h out : Head) (l : Link) (p : Place) (c : TypeRef) (t : Option Ty)
-    → l ≡ link.As c → out ≡ AValueOf form.Other (value_at p t) → ((e : ExprTree) → t ≡ static a.scope (link_behind l p e))
-    → f1 ≡ f0 ++ class_test_faults a h (type_tree c) → Leads a f0 h f1 out (link_behind l p)
+    → l ≡ link.As c → out ≡ AValueOf form.Other (value_at p t) → ((e : ExprTree) → t ≡ static a.scope (link_after l p e))
+    → f1 ≡ f0 ++ class_test_faults a h (type_tree c) → Leads a f0 h f1 out (link_after l p)
 as_leads a f0 f1 h out l p c t is made has_type noted =
-    let same : (e : ExprTree) → link_behind l p e ≡ AsOf p e (type_tree c) = λ e. ap (λ (m : Link). link_behind m p e) is ∙ as_is c p e in
-    led a f0 f1 h out (link_behind l p) (λ e. AsOf p e (type_tree c)) same (record {
-      on = λ e before w. as_walked a before f0 f1 h out e p (type_tree c) (typed a.scope p t out (link_behind l p) (λ e. AsOf p e (type_tree c)) same made has_type e) w noted;
+    let same : (e : ExprTree) → link_after l p e ≡ AsOf p e (type_tree c) = λ e. ap (λ (m : Link). link_after m p e) is ∙ as_is c p e in
+    led a f0 f1 h out (link_after l p) (λ e. AsOf p e (type_tree c)) same (record {
+      on = λ e before w. as_walked a before f0 f1 h out e p (type_tree c) (typed a.scope p t out (link_after l p) (λ e. AsOf p e (type_tree c)) same made has_type e) w noted;
     })

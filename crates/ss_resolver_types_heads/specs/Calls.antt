@@ -139,7 +139,7 @@ called_value cs v n =
     else if has_no_members v then Refused
     else called_on_object cs n (class_of_known v)
 
--- a method behind a dot; before the dot stands this receiver, of which as much is known
+-- a method after a dot; before the dot stands this receiver, of which as much is known
 abbrev pub called_member : ExprContext → ℕ → Known → List ℕ → Receiver → Called
 called_member a count v n TheConsole = called_console count n
 called_member a count v n TheOwner = called_owner n

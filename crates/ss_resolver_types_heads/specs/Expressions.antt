@@ -126,7 +126,7 @@ abbrev pub is_no_read : List ClassTree → Known → List ℕ → Bool
 is_no_read cs v n =
     if is_state_read n then false else is_state_call n || has_no_members v || reads_method cs n (option_and_then class_of v.ty)
 
--- the words behind `Console.` and `Owner.` are called, and so are the methods behind `base.`
+-- the words after `Console.` and `Owner.` are called, and so are the methods after `base.`
 abbrev pub is_wrong_read : List ClassTree → Known → List ℕ → Receiver → Bool
 is_wrong_read cs v n TheConsole = true
 is_wrong_read cs v n TheOwner = true

@@ -1,5 +1,5 @@
--- Paths read from the left: how an expression ends decides what may still be made of it. A bare name, the word `base` and a name behind
--- a dot may be read, stand before a dot or be called; what they are for is known only from what stands behind them.
+-- Paths read from the left: how an expression ends decides what may still be made of it. A bare name, the word `base` and a name after
+-- a dot may be read, stand before a dot or be called; what they are for is known only from what stands after them.
 use Rattle.std.specs.Prelude.{◌≡◌, ℕ, Bool, List, [], ◌∷◌, ◌++◌, Option, None, option_and_then, true, false, if◌then◌else◌}
 use Rattle.ss_core.specs.declared.names.Place.{Place}
 use Rattle.ss_core.specs.declared.names.Ty.{Ty}
@@ -19,7 +19,7 @@ use Rattle.ss_resolver_types_heads.specs.Expressions.{AsCallee, AsValue, name_fa
 pub data Head : Type 0 where
   ABareName : Place → List ℕ → Head
   ABaseWord : Place → Head
-  -- a name behind a dot, with what stands before the dot
+  -- a name after a dot, with what stands before the dot
   AMember : Place → Receiver → Known → NameTree → Head
   -- it ends otherwise
   AValueOf : Form → Known → Head
@@ -134,12 +134,12 @@ within_bound a n = record a { scope = within_quantifier a.scope n }
 
 -- ---- one part more
 
--- behind faults that were there before, an expression was read up to what the next part decides
+-- after faults that were there before, an expression was read up to what the next part decides
 pub record IsWalked (a : ExprContext) (before now : List Fault) (h : Head) (e : ExprTree) : Type 0 where
   pub is : h ≡ ending a.scope e
   pub noted : now ≡ before ++ faults a AsCallee e
 
--- what stands behind any expression that was walked, by the head and the faults that it leaves
+-- what stands after any expression that was walked, by the head and the faults that it leaves
 pub record Leads (a : ExprContext) (old : List Fault) (from : Head) (new : List Fault) (to : Head) (behind : ExprTree → ExprTree) : Type 0 where
   pub on : (e : ExprTree) (before : List Fault) → IsWalked a before old from e → IsWalked a before new to (behind e)
 

@@ -258,7 +258,7 @@ fn call_value<'p>(tables: &Tables<'p>, known: Known, name: &str) -> Called<'p>
     call_on_object(tables, name, class_of_known(known))
 }
 
-/// A call of what stands behind a dot.
+/// A call of what stands after a dot.
 pub fn call_member<'p>(
     context: &ExprContext<'_, 'p>,
     locals: &Scopes,

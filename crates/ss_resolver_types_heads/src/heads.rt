@@ -24,7 +24,7 @@ use ss_tables_scopes::{
 };
 use std::alloc::AllocError;
 
-/// What an expression is that ends neither with a bare name nor with a name behind a dot.
+/// What an expression is that ends neither with a bare name nor with a name after a dot.
 #[derive(Clone, Copy)]
 pub enum Form {
     Element,
@@ -41,7 +41,7 @@ pub enum Head<'e> {
     Name(Place, &'e String),
     /// The word `base`.
     Base(Place),
-    /// A name behind a dot, with what stands before the dot.
+    /// A name after a dot, with what stands before the dot.
     Member(Place, Receiver, Known, &'e Name),
     /// It ends otherwise.
     Value(Form, Known),
@@ -113,7 +113,7 @@ fn is_no_read(tables: &Tables<'_>, known: Known, name: &str) -> bool
         || reads_method(tables, name, class_of_known(known))
 }
 
-// Whether a name behind a dot can't be read.
+// Whether a name after a dot can't be read.
 fn is_wrong_read(tables: &Tables<'_>, known: Known, name: &str, receiver: Receiver) -> bool
     ensures { result ≡ is_wrong_read (trees tables.now) (known_of known) name.now (receiver_of receiver) }
 {
@@ -140,7 +140,7 @@ fn stands_for_value(context: &ExprContext<'_, '_>, locals: &Scopes, name: &str) 
     is_value(name_receiver(context.within, locals, name, None))
 }
 
-// Notes a state word behind what is no reference.
+// Notes a state word after what is no reference.
 fn note_word(
     tables: &Tables<'_>,
     found: &mut Vec<Fault>,
@@ -300,7 +300,7 @@ fn note_before_dot(
     }
 }
 
-// A dot and a name behind an expression.
+// A dot and a name after an expression.
 fn dot<'e>(
     context: &ExprContext<'_, '_>,
     locals: &Scopes,
@@ -325,7 +325,7 @@ fn dot<'e>(
     Ok(Head::Member(place, receiver, known, name))
 }
 
-/// A dot and a name behind an expression.
+/// A dot and a name after an expression.
 pub fn walk_dot<'e>(
     context: &ExprContext<'_, '_>,
     locals: &Scopes,

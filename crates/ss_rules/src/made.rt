@@ -53,7 +53,7 @@ impl Made {
         }
     }
 
-    // What an instance says, where its arguments fit the rule. It is made where it isn't the one at this place, behind which the place goes.
+    // What an instance says, where its arguments fit the rule. It is made where it isn't the one at this place, after which the place goes.
     fn say(
         &self,
         context: &SayingContext<'_>,

@@ -81,7 +81,7 @@ denied_next a b c fs i d y made after f e at h g k there was says is =
 pub made_there : (b c : Forms) (made after : List FormulaId) (f : FormulaId) → IsGrown b c → HasFormulas b made → HasFormula c f → after ≡ made ++ f ∷ [] → HasFormulas c after
 made_there b c made after f g h at is = subst (HasFormulas c) (sym is) (AreBelow-push _ made f (HasFormulas-grown b c g made h) at)
 
--- with the conclusion behind the negations of the premises
+-- with the conclusion after the negations of the premises
 denied_list : (b : Forms) (ps : List Fact) → map (denied_at b) ps ≡ map neg (map (fact_at b) ps)
 denied_list b [] = refl
 denied_list b (p ∷ ps) = ap (λ xs. denied_at b p ∷ xs) (denied_list b ps)

@@ -30,7 +30,7 @@ plan_at t (One f x) = app (symbol_of f) (t x ∷ [])
 plan_at t (Two f x y) = app (symbol_of f) (t x ∷ t y ∷ [])
 plan_at t (Three f x y z) = app (symbol_of f) (t x ∷ t y ∷ t z ∷ [])
 
--- the results of plans, behind those of the plans before
+-- the results of plans, after those of the plans before
 abbrev pub planned : (TermId → Term) → List Term → List Plan → List Term
 planned look made [] = made
 planned look made (p ∷ ps) = planned look (made ++ plan_at (slot_value look made) p ∷ []) ps

@@ -141,7 +141,7 @@ fn arrays(alloc: Global, classes: &Classes) -> Result<Vec<u16>, AllocError>
     Ok(found)
 }
 
-// One sentence for each of these classes, behind those made before.
+// One sentence for each of these classes, after those made before.
 fn elements_of_classes(
     alloc: Global,
     b: &mut Bank,

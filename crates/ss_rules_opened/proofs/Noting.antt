@@ -61,7 +61,7 @@ module _ (cs : List ClassTree) (premises : List Formula) (goal : Formula) (choic
   pub none_come : ComeFrom cs premises goal choices b [] []
   none_come = record { has = tt; are = no_origins cs premises goal choices }
 
-  -- the list has the formula, and the origin stands behind those before
+  -- the list has the formula, and the origin stands after those before
   pub one_more_comes : (fs gs : List Formula) (f : Formula) (os ps : List Origin) (o : Origin) → gs ≡ fs ++ f ∷ [] → ps ≡ os ++ o ∷ [] → HasSource b o.source → HasTerms b o.terms.items →
       IsOrigin cs premises goal choices fs (origin_at b o) f → ComeFrom cs premises goal choices b fs os → ComeFrom cs premises goal choices b gs ps
   one_more_comes fs gs f os ps o e n k l is h =

@@ -14,70 +14,70 @@ when_true true x e = refl
 when_true false x e = cc
 
 module _ (cs : List ClassTree) (premises : List Formula) (goal : Formula) where
-  -- ---- cases that wait behind
+  -- ---- cases that wait after
 
   abbrev behind : List (List Formula) → State → State
   behind others (Open known waiting) = Open known (waiting ++ others)
   behind others (Between waiting) = Between (waiting ++ others)
 
   module _ (others : List (List Formula)) where
-    fact_behind : (known : List Formula) (waiting : List (List Formula)) (o : Option Formula) (next : State) → add_fact cs known waiting o ≡ Some next → add_fact cs known (waiting ++ others) o ≡ Some (behind others next)
-    fact_behind known waiting None next e = cc
-    fact_behind known waiting (Some f) next e =
+    fact_after : (known : List Formula) (waiting : List (List Formula)) (o : Option Formula) (next : State) → add_fact cs known waiting o ≡ Some next → add_fact cs known (waiting ++ others) o ≡ Some (behind others next)
+    fact_after known waiting None next e = cc
+    fact_after known waiting (Some f) next e =
         let w = when_some (is_well_formed cs [] f) (Open (known ++ f ∷ []) waiting) next e in
         when_true (is_well_formed cs [] f) (Open (known ++ f ∷ []) (waiting ++ others)) w.0 ∙ ap (λ s. Some (behind others s)) w.1
 
-    opened_behind : (known : List Formula) (waiting : List (List Formula)) (fs : List Formula) → behind others (open_cases known waiting fs) ≡ open_cases known (waiting ++ others) fs
-    opened_behind known waiting fs = ap Between (append_assoc (map (λ f. known ++ f ∷ []) fs) waiting others)
+    opened_after : (known : List Formula) (waiting : List (List Formula)) (fs : List Formula) → behind others (open_cases known waiting fs) ≡ open_cases known (waiting ++ others) fs
+    opened_after known waiting fs = ap Between (append_assoc (map (λ f. known ++ f ∷ []) fs) waiting others)
 
-    split_behind : (known : List Formula) (waiting : List (List Formula)) (k : ℕ) (o : Option Formula) (next : State) → split_case known waiting k o ≡ Some next → split_case known (waiting ++ others) k o ≡ Some (behind others next)
-    split_behind known waiting k o next e = by (option_and_then (cases_of k) o) e
+    split_after : (known : List Formula) (waiting : List (List Formula)) (k : ℕ) (o : Option Formula) (next : State) → split_case known waiting k o ≡ Some next → split_case known (waiting ++ others) k o ≡ Some (behind others next)
+    split_after known waiting k o next e = by (option_and_then (cases_of k) o) e
       where
         by : (p : Option (List Formula)) → option_and_then (λ fs. Some (open_cases known waiting fs)) p ≡ Some next → option_and_then (λ fs. Some (open_cases known (waiting ++ others) fs)) p ≡ Some (behind others next)
         by None h = cc
-        by (Some fs) h = let same : open_cases known waiting fs ≡ next = cc in ap Some (sym (opened_behind known waiting fs)) ∙ ap (λ s. Some (behind others s)) same
+        by (Some fs) h = let same : open_cases known waiting fs ≡ next = cc in ap Some (sym (opened_after known waiting fs)) ∙ ap (λ s. Some (behind others s)) same
 
-    cut_behind : (known : List Formula) (waiting : List (List Formula)) (f : Formula) (next : State) → cut_case cs known waiting f ≡ Some next → cut_case cs known (waiting ++ others) f ≡ Some (behind others next)
-    cut_behind known waiting f next e =
+    cut_after : (known : List Formula) (waiting : List (List Formula)) (f : Formula) (next : State) → cut_case cs known waiting f ≡ Some next → cut_case cs known (waiting ++ others) f ≡ Some (behind others next)
+    cut_after known waiting f next e =
         let w = when_some (is_cut f && is_well_formed cs [] f) (open_cases known waiting (f ∷ neg f ∷ [])) next e in
         when_true (is_cut f && is_well_formed cs [] f) (open_cases known (waiting ++ others) (f ∷ neg f ∷ [])) w.0
-        ∙ ap Some (sym (opened_behind known waiting (f ∷ neg f ∷ []))) ∙ ap (λ s. Some (behind others s)) w.1
+        ∙ ap Some (sym (opened_after known waiting (f ∷ neg f ∷ []))) ∙ ap (λ s. Some (behind others s)) w.1
 
-    close_behind : (known : List Formula) (waiting : List (List Formula)) (i j : ℕ) (next : State) → close_case known waiting i j ≡ Some next → close_case known (waiting ++ others) i j ≡ Some (behind others next)
-    close_behind known waiting i j next e =
+    close_after : (known : List Formula) (waiting : List (List Formula)) (i j : ℕ) (next : State) → close_case known waiting i j ≡ Some next → close_case known (waiting ++ others) i j ≡ Some (behind others next)
+    close_after known waiting i j next e =
         let w = when_some (is_clash i j (slice_get known i) (slice_get known j)) (Between waiting) next e in
         when_true (is_clash i j (slice_get known i) (slice_get known j)) (Between (waiting ++ others)) w.0 ∙ ap (λ s. Some (behind others s)) w.1
 
-    step_behind : (state : State) (line : Line) (next : State) → step cs premises goal state line ≡ Some next → step cs premises goal (behind others state) line ≡ Some (behind others next)
-    step_behind (Open known waiting) (Split i k) next e = split_behind known waiting k (slice_get known i) next e
-    step_behind (Open known waiting) (Cut f) next e = cut_behind known waiting f next e
-    step_behind (Open known waiting) (Clash i j) next e = close_behind known waiting i j next e
-    step_behind (Open known waiting) (Premise i) next e = fact_behind known waiting (fact_of cs premises goal known (Premise i)) next e
-    step_behind (Open known waiting) Denied next e = fact_behind known waiting (fact_of cs premises goal known Denied) next e
-    step_behind (Open known waiting) (Part i j) next e = fact_behind known waiting (fact_of cs premises goal known (Part i j)) next e
-    step_behind (Open known waiting) (Inst i ts) next e = fact_behind known waiting (fact_of cs premises goal known (Inst i ts)) next e
-    step_behind (Open known waiting) (Choose f ts) next e = fact_behind known waiting (fact_of cs premises goal known (Choose f ts)) next e
-    step_behind (Open known waiting) (Rule name ts) next e = fact_behind known waiting (fact_of cs premises goal known (Rule name ts)) next e
-    step_behind (Open known waiting) (GoodLine name i ts) next e = fact_behind known waiting (fact_of cs premises goal known (GoodLine name i ts)) next e
-    step_behind (Open known waiting) (InvariantsLine i ts) next e = fact_behind known waiting (fact_of cs premises goal known (InvariantsLine i ts)) next e
-    step_behind (Open known waiting) (Chain x y is) next e = fact_behind known waiting (fact_of cs premises goal known (Chain x y is)) next e
-    step_behind (Open known waiting) (Cong x y is) next e = fact_behind known waiting (fact_of cs premises goal known (Cong x y is)) next e
-    step_behind (Open known waiting) (Swap i f js) next e = fact_behind known waiting (fact_of cs premises goal known (Swap i f js)) next e
-    step_behind (Open known waiting) (Sum d ps) next e = fact_behind known waiting (fact_of cs premises goal known (Sum d ps)) next e
-    step_behind (Open known waiting) Case next e = cc
-    step_behind (Open known waiting) Nowhere next e = cc
-    step_behind (Between []) line next e = cc
-    step_behind (Between (known ∷ waiting)) Case next e = let same : Open known waiting ≡ next = cc in ap (λ s. Some (behind others s)) same
-    step_behind (Between (known ∷ waiting)) line next e = cc
+    step_after : (state : State) (line : Line) (next : State) → step cs premises goal state line ≡ Some next → step cs premises goal (behind others state) line ≡ Some (behind others next)
+    step_after (Open known waiting) (Split i k) next e = split_after known waiting k (slice_get known i) next e
+    step_after (Open known waiting) (Cut f) next e = cut_after known waiting f next e
+    step_after (Open known waiting) (Clash i j) next e = close_after known waiting i j next e
+    step_after (Open known waiting) (Premise i) next e = fact_after known waiting (fact_of cs premises goal known (Premise i)) next e
+    step_after (Open known waiting) Denied next e = fact_after known waiting (fact_of cs premises goal known Denied) next e
+    step_after (Open known waiting) (Part i j) next e = fact_after known waiting (fact_of cs premises goal known (Part i j)) next e
+    step_after (Open known waiting) (Inst i ts) next e = fact_after known waiting (fact_of cs premises goal known (Inst i ts)) next e
+    step_after (Open known waiting) (Choose f ts) next e = fact_after known waiting (fact_of cs premises goal known (Choose f ts)) next e
+    step_after (Open known waiting) (Rule name ts) next e = fact_after known waiting (fact_of cs premises goal known (Rule name ts)) next e
+    step_after (Open known waiting) (GoodLine name i ts) next e = fact_after known waiting (fact_of cs premises goal known (GoodLine name i ts)) next e
+    step_after (Open known waiting) (InvariantsLine i ts) next e = fact_after known waiting (fact_of cs premises goal known (InvariantsLine i ts)) next e
+    step_after (Open known waiting) (Chain x y is) next e = fact_after known waiting (fact_of cs premises goal known (Chain x y is)) next e
+    step_after (Open known waiting) (Cong x y is) next e = fact_after known waiting (fact_of cs premises goal known (Cong x y is)) next e
+    step_after (Open known waiting) (Swap i f js) next e = fact_after known waiting (fact_of cs premises goal known (Swap i f js)) next e
+    step_after (Open known waiting) (Sum d ps) next e = fact_after known waiting (fact_of cs premises goal known (Sum d ps)) next e
+    step_after (Open known waiting) Case next e = cc
+    step_after (Open known waiting) Nowhere next e = cc
+    step_after (Between []) line next e = cc
+    step_after (Between (known ∷ waiting)) Case next e = let same : Open known waiting ≡ next = cc in ap (λ s. Some (behind others s)) same
+    step_after (Between (known ∷ waiting)) line next e = cc
 
     run_behind : (lines : List Line) (state next : State) → run cs premises goal state lines ≡ Some next → run cs premises goal (behind others state) lines ≡ Some (behind others next)
     run_behind [] state next e = let same : state ≡ next = cc in ap (λ s. Some (behind others s)) same
     run_behind (line ∷ lines) state next e =
         let s = and_then_some (λ x. run cs premises goal x lines) (step cs premises goal state line) next e in
-        ap (option_and_then (λ x. run cs premises goal x lines)) (step_behind state line s.0 s.1) ∙ run_behind lines s.0 next s.2
+        ap (option_and_then (λ x. run cs premises goal x lines)) (step_after state line s.0 s.1) ∙ run_behind lines s.0 next s.2
 
-    pub closes_behind : (known : List Formula) (lines : List Line) → Closes cs premises goal known lines → run cs premises goal (Open known others) lines ≡ Some (Between others)
-    closes_behind known lines e = run_behind lines (Open known []) (Between []) e
+    pub closes_after : (known : List Formula) (lines : List Line) → Closes cs premises goal known lines → run cs premises goal (Open known others) lines ≡ Some (Between others)
+    closes_after known lines e = run_behind lines (Open known []) (Between []) e
 
   -- ---- lines after lines
 
@@ -110,15 +110,15 @@ module _ (cs : List ClassTree) (premises : List Formula) (goal : Formula) where
   in_turn known (f ∷ fs) [] h = absurd h
   in_turn known (f ∷ fs) (lines ∷ others) h =
       run_after lines (cases_in_turn others) (Open (known ++ f ∷ []) (map (λ g. known ++ g ∷ []) fs)) (Between (map (λ g. known ++ g ∷ []) fs))
-      (closes_behind (map (λ g. known ++ g ∷ []) fs) (known ++ f ∷ []) lines h.0)
+      (closes_after (map (λ g. known ++ g ∷ []) fs) (known ++ f ∷ []) lines h.0)
       ∙ in_turn known fs others h.1
 
-  none_behind : {A : Type 0} (xs : List A) → xs ++ [] ≡ xs
-  none_behind [] = refl
-  none_behind (x ∷ xs) = ap (λ ys. x ∷ ys) (none_behind xs)
+  none_after : {A : Type 0} (xs : List A) → xs ++ [] ≡ xs
+  none_after [] = refl
+  none_after (x ∷ xs) = ap (λ ys. x ∷ ys) (none_after xs)
 
   opened : (known : List Formula) (fs : List Formula) (others : List (List Line)) → CloseEach cs premises goal known fs others → run cs premises goal (open_cases known [] fs) (cases_in_turn others) ≡ Some (Between [])
-  opened known fs others h = ap (λ ws. run cs premises goal (Between ws) (cases_in_turn others)) (none_behind (map (λ f. known ++ f ∷ []) fs)) ∙ in_turn known fs others h
+  opened known fs others h = ap (λ ws. run cs premises goal (Between ws) (cases_in_turn others)) (none_after (map (λ f. known ++ f ∷ []) fs)) ∙ in_turn known fs others h
 
   pub closes_split : (known : List Formula) (i : ℕ) (fs : Formulas) (others : List (List Line)) → slice_get known i ≡ Some (Or fs) → CloseEach cs premises goal known (formula_list fs) others →
       Closes cs premises goal known (Split i (count_of fs) ∷ cases_in_turn others)

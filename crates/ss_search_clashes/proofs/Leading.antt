@@ -12,9 +12,9 @@ use Rattle.ss_search_clashes.specs.Closing.{Closes, cases_in_turn, CloseEach}
 use Rattle.ss_search_clashes.specs.Leading.{Leads}
 use Rattle.ss_search_clashes.proofs.Closing.{closes_fact, closes_split, closes_cut, closes_clash}
 
-nothing_behind : {A : Type 0} (xs : List A) → xs ++ [] ≡ xs
-nothing_behind [] = refl
-nothing_behind (x ∷ xs) = ap (λ ys. x ∷ ys) (nothing_behind xs)
+nothing_after : {A : Type 0} (xs : List A) → xs ++ [] ≡ xs
+nothing_after [] = refl
+nothing_after (x ∷ xs) = ap (λ ys. x ∷ ys) (nothing_after xs)
 
 -- cases in turn, some and then others
 in_turn_append : (one two : List (List Line)) → cases_in_turn (one ++ two) ≡ cases_in_turn one ++ cases_in_turn two
@@ -32,20 +32,20 @@ at_end (z ∷ xs) x = at_end xs x
 
 module _ (cs : List ClassTree) (premises : List Formula) (goal : Formula) where
   pub stays : (known : List Formula) → Leads cs premises goal known [] known []
-  stays known = record { closes = λ lines c. subst (Closes cs premises goal known) (sym (nothing_behind lines)) c }
+  stays known = record { closes = λ lines c. subst (Closes cs premises goal known) (sym (nothing_after lines)) c }
 
-  pub goes_on : (start middle known : List Formula) (before before' behind behind' : List Line) → Leads cs premises goal start before middle behind →
-      Leads cs premises goal middle before' known behind' → Leads cs premises goal start (before ++ before') known (behind' ++ behind)
-  goes_on start middle known before before' behind behind' one two = record {
+  pub goes_on : (start middle known : List Formula) (before before' behind after' : List Line) → Leads cs premises goal start before middle behind →
+      Leads cs premises goal middle before' known after' → Leads cs premises goal start (before ++ before') known (after' ++ behind)
+  goes_on start middle known before before' behind after' one two = record {
     closes = λ lines c. subst (Closes cs premises goal start)
-        (ap (λ r. before ++ r) (append_assoc before' (lines ++ behind') behind ∙ ap (λ r. before' ++ r) (append_assoc lines behind' behind)) ∙ sym (append_assoc before before' (lines ++ (behind' ++ behind))))
-        (one.closes (before' ++ (lines ++ behind')) (two.closes lines c));
+        (ap (λ r. before ++ r) (append_assoc before' (lines ++ after') behind ∙ ap (λ r. before' ++ r) (append_assoc lines after' behind)) ∙ sym (append_assoc before before' (lines ++ (after' ++ behind))))
+        (one.closes (before' ++ (lines ++ after')) (two.closes lines c));
   }
 
   -- one more fact
   pub by_fact : (known : List Formula) (line : Line) (f : Formula) → fact_of cs premises goal known line ≡ Some f → is_well_formed cs [] f ≡ true →
       Leads cs premises goal known (line ∷ []) (known ++ f ∷ []) []
-  by_fact known line f is formed = record { closes = λ lines c. subst (λ r. Closes cs premises goal known (line ∷ r)) (sym (nothing_behind lines)) (closes_fact cs premises goal known line f lines is formed c) }
+  by_fact known line f is formed = record { closes = λ lines c. subst (λ r. Closes cs premises goal known (line ∷ r)) (sym (nothing_after lines)) (closes_fact cs premises goal known line f lines is formed c) }
 
   -- each of some formulas has lines that close its case, then so has one, then others
   close_all : (known one : List Formula) (f : Formula) (two : List Formula) (before : List (List Line)) (lines : List Line) (behind : List (List Line)) →
@@ -71,7 +71,7 @@ module _ (cs : List ClassTree) (premises : List Formula) (goal : Formula) where
   pub by_cut : (known : List Formula) (f : Formula) (closed : List Line) → is_cut f ≡ true → is_well_formed cs [] f ≡ true → Closes cs premises goal (known ++ neg f ∷ []) closed →
       Leads cs premises goal known (Cut f ∷ Case ∷ []) (known ++ f ∷ []) (Case ∷ closed)
   by_cut known f closed cut formed c = record {
-    closes = λ lines d. subst (λ r. Closes cs premises goal known (Cut f ∷ Case ∷ lines ++ Case ∷ r)) (nothing_behind closed) (closes_cut cs premises goal known f lines closed cut formed d c);
+    closes = λ lines d. subst (λ r. Closes cs premises goal known (Cut f ∷ Case ∷ lines ++ Case ∷ r)) (nothing_after closed) (closes_cut cs premises goal known f lines closed cut formed d c);
   }
 
   -- its negation, where it is closed

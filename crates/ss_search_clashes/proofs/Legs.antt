@@ -6,7 +6,7 @@ use Rattle.ss_search_clashes.specs.declared.ways.Leg.{Leg}
 use Rattle.ss_search_clashes.specs.declared.ways.Leg.TheVariants.{Between, By}
 use Rattle.ss_search_clashes.specs.Ways.{way}
 use Rattle.ss_search_clashes.specs.Legs.{leg_way, legs_way, leg_weight, weight, IsLeg, AreLegs}
-use Rattle.ss_search_clashes.proofs.Lists.{nothing_behind}
+use Rattle.ss_search_clashes.proofs.Lists.{nothing_after}
 
 -- two legs and a join weigh less than the way over it
 lighter : (n w a b c : ℕ) → n ≡ ((w + (3 * b + 1)) + 1) + (3 * a + 1) → c ≡ a + suc b → n < w + (3 * c + 1)
@@ -14,7 +14,7 @@ lighter n w a b c h g = omega (arith, h, g)
 
 module _ (es : List Join) where
   pub way_push : (legs : List Leg) (leg : Leg) → legs_way es (legs ++ leg ∷ []) ≡ leg_way es leg ++ legs_way es legs
-  way_push [] leg = sym (nothing_behind (leg_way es leg))
+  way_push [] leg = sym (nothing_after (leg_way es leg))
   way_push (first ∷ legs) leg = ap (λ js. js ++ leg_way es first) (way_push legs leg) ∙ append_assoc (leg_way es leg) (legs_way es legs) (leg_way es first)
 
   pub weight_push : (legs : List Leg) (leg : Leg) → weight es (legs ++ leg ∷ []) ≡ weight es legs + leg_weight es leg
@@ -70,4 +70,4 @@ module _ (es : List Join) where
 
   -- at last no leg is left
   pub last_way : (gone js : List ℕ) (all : List Leg) → all ≡ [] → gone ++ legs_way es all ≡ js → gone ≡ js
-  last_way gone js all none h = sym (nothing_behind gone) ∙ ap (λ legs. gone ++ legs_way es legs) (sym none) ∙ h
+  last_way gone js all none h = sym (nothing_after gone) ∙ ap (λ legs. gone ++ legs_way es legs) (sym none) ∙ h

@@ -20,7 +20,7 @@ use Rattle.ss_search_clashes.proofs.Leading.{at_end, goes_on, by_fact, stays}
 use Rattle.ss_search_clashes.specs.Ways.{way}
 use Rattle.ss_search_clashes.specs.Said.{fact_said, facts_said}
 use Rattle.ss_search_clashes.specs.Placed.{places_of, chain_between, chains}
-use Rattle.ss_search_clashes.proofs.Lists.{nothing_behind}
+use Rattle.ss_search_clashes.proofs.Lists.{nothing_after}
 use Rattle.ss_search_clashes.proofs.Walks.{walk_more, joined_by}
 
 -- ---- facts
@@ -61,7 +61,7 @@ module _ (cs : List ClassTree) (premises : List Formula) (goal : Formula) where
     Lead lines = Leads cs premises goal start lines (start ++ facts_said lines) []
 
     pub no_line : Lead []
-    no_line = subst (λ fs. Leads cs premises goal start [] fs []) (sym (nothing_behind start)) (stays cs premises goal start)
+    no_line = subst (λ fs. Leads cs premises goal start [] fs []) (sym (nothing_after start)) (stays cs premises goal start)
 
     pub one_more : (lines : List Line) (line : Line) → Lead lines → fact_of cs premises goal (start ++ facts_said lines) line ≡ Some (fact_said line) → is_well_formed cs [] (fact_said line) ≡ true → Lead (lines ++ line ∷ [])
     one_more lines line lead is formed =
@@ -83,13 +83,13 @@ module _ (cs : List ClassTree) (premises : List Formula) (goal : Formula) where
       between_leads lines x y lead can = by (same_term (term_at b x) (term_at b y))
         where
           by : (t : Bool) → Lead (lines ++ cond t [] (Chain (term_at b x) (term_at b y) (places_of places (way es x.0 y.0)) ∷ []))
-          by true = subst Lead (sym (nothing_behind lines)) lead
+          by true = subst Lead (sym (nothing_after lines)) lead
           by false = chain_leads lines x y lead can
 
       pub chains_lead : (lines : List Line) (xs ys : List TermId) → Lead lines →
           ((i : ℕ) (x y : TermId) → slice_get xs i ≡ Some x → slice_get ys i ≡ Some y → CanChain cs b es places (start ++ facts_said lines) x y) → Lead (lines ++ chains b es places xs ys)
-      chains_lead lines [] ys lead can = subst Lead (sym (nothing_behind lines)) lead
-      chains_lead lines (x ∷ xs) [] lead can = subst Lead (sym (nothing_behind lines)) lead
+      chains_lead lines [] ys lead can = subst Lead (sym (nothing_after lines)) lead
+      chains_lead lines (x ∷ xs) [] lead can = subst Lead (sym (nothing_after lines)) lead
       chains_lead lines (x ∷ xs) (y ∷ ys) lead can =
           subst Lead (append_assoc lines (chain_between b es places x y) (chains b es places xs ys))
           (chains_lead (lines ++ chain_between b es places x y) xs ys (between_leads lines x y lead (can 0 x y refl refl))

@@ -17,9 +17,9 @@ has_append (z ∷ xs) ys x h = ⊎_elim
 pub one_there : {A : Type 0} (xs : List A) (i : ℕ) (x y : A) → slice_get xs i ≡ Some x → slice_get xs i ≡ Some y → x ≡ y
 one_there xs i x y a b = let both : Some x ≡ Some y = sym a ∙ b in cc
 
-pub nothing_behind : {A : Type 0} (xs : List A) → xs ++ [] ≡ xs
-nothing_behind [] = refl
-nothing_behind (x ∷ xs) = ap (λ ys. x ∷ ys) (nothing_behind xs)
+pub nothing_after : {A : Type 0} (xs : List A) → xs ++ [] ≡ xs
+nothing_after [] = refl
+nothing_after (x ∷ xs) = ap (λ ys. x ∷ ys) (nothing_after xs)
 
 -- what was written back into a whole list is the list
 pub written_whole : {A : Type 0} (n : ℕ) (xs old : List A) → n ≡ length xs → take n (xs ++ drop (length xs) old) ≡ xs
@@ -36,7 +36,7 @@ module _ {A : Type 0} (f : TermId → TermId → List A) where
       each_pair f (take (suc i) xs) (take (suc i) ys) ≡ each_pair f (take i xs) (take i ys) ++ f x y
   pairs_next i [] ys x y p q = cc
   pairs_next i (a ∷ xs) [] x y p q = cc
-  pairs_next zero (a ∷ xs) (c ∷ ys) x y p q = let one : a ≡ x = cc in let two : c ≡ y = cc in nothing_behind (f a c) ∙ ap (λ z. f z c) one ∙ ap (f x) two
+  pairs_next zero (a ∷ xs) (c ∷ ys) x y p q = let one : a ≡ x = cc in let two : c ≡ y = cc in nothing_after (f a c) ∙ ap (λ z. f z c) one ∙ ap (f x) two
   pairs_next (suc i) (a ∷ xs) (c ∷ ys) x y p q = ap (λ zs. f a c ++ zs) (pairs_next i xs ys x y p q) ∙ sym (append_assoc (f a c) (each_pair f (take i xs) (take i ys)) (f x y))
 
   pub pairs_all : (xs ys : List TermId) (n : ℕ) → length xs ≤ n → length xs ≡ length ys → each_pair f (take n xs) (take n ys) ≡ each_pair f xs ys

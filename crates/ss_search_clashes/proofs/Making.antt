@@ -24,7 +24,7 @@ use Rattle.ss_search_clashes.proofs.Leading.{at_front}
 use Rattle.ss_search_clashes.specs.Ways.{way, ArePaired}
 use Rattle.ss_search_clashes.specs.Said.{facts_said, AreKnown, MakeKnown, AreEqual, IsLiteralAt}
 use Rattle.ss_search_clashes.specs.Placed.{places_of, chains, AddsChains, AreSorted, IsReady}
-use Rattle.ss_search_clashes.proofs.Lists.{nothing_behind, has_pair}
+use Rattle.ss_search_clashes.proofs.Lists.{nothing_after, has_pair}
 use Rattle.ss_search_clashes.proofs.Marks.{ways_inside}
 use Rattle.ss_search_clashes.proofs.Sorts.{handed_down, merges_alike, alike_named, literal_argument, literal_formed}
 use Rattle.ss_search_clashes.proofs.Lines.{at_behind, behind_first, CanChain, chain_leads, chains_lead, one_more, swap_fact, swapped_lists, Lead, AreFrom, chains_exchange}
@@ -142,6 +142,6 @@ module _ (b : Forms) (apart : AreApart b) (fs : List TermShape) (forms : AreForm
     makes_equality = record {
       leads = equality_leads;
       at = λ known many. fact_at_last b known old new [] (Chain (term_at b x) (term_at b y) (places_of places (way es x.0 y.0))) place
-          (lines_are ∙ ap (λ ls. ls ++ Chain (term_at b x) (term_at b y) (places_of places (way es x.0 y.0)) ∷ []) (sym (nothing_behind (lines_of b old))))
+          (lines_are ∙ ap (λ ls. ls ++ Chain (term_at b x) (term_at b y) (places_of places (way es x.0 y.0)) ∷ []) (sym (nothing_after (lines_of b old))))
           (place_is ∙ (let z : count + length old ≡ count + (length old + length {A = tree.Line} []) = omega arith in z) ∙ ap (λ n. n + (length old + length {A = tree.Line} [])) (sym many));
     }

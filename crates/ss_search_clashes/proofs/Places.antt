@@ -29,7 +29,7 @@ use Rattle.ss_search_clashes.specs.Ways.{way, ArePaired}
 use Rattle.ss_search_clashes.specs.Needed.{IsCongruence, AreClosed}
 use Rattle.ss_search_clashes.specs.Said.{fact_said, facts_said, AreKnown}
 use Rattle.ss_search_clashes.specs.Placed.{places_of, chain_between, chains, AddsChains, IsPlaced, AreSorted, ArePlaced}
-use Rattle.ss_search_clashes.proofs.Lists.{nothing_behind, one_there, has_pair, pairs_next, pairs_all}
+use Rattle.ss_search_clashes.proofs.Lists.{nothing_after, one_there, has_pair, pairs_next, pairs_all}
 use Rattle.ss_search_clashes.proofs.Going.{gone_way}
 use Rattle.ss_search_clashes.proofs.Marks.{cause_of, paired_of, ways_before}
 use Rattle.ss_search_clashes.proofs.Sorts.{formed_equal, unsorted, merges_alike, alike_named, handed_down}
@@ -63,8 +63,8 @@ module _ (b : Forms) where
 
   pub adds_none : (known : ℕ) (old new : List Line) (places : List ℕ) → new ≡ old → AddsChains b [] known old new places places
   adds_none known old new places e = record {
-    lines = ap (lines_of b) e ∙ sym (nothing_behind (lines_of b old));
-    places = sym (ap (λ ks. places ++ ks) (numbers_zero (known + length old)) ∙ nothing_behind places);
+    lines = ap (lines_of b) e ∙ sym (nothing_after (lines_of b old));
+    places = sym (ap (λ ks. places ++ ks) (numbers_zero (known + length old)) ∙ nothing_after places);
   }
 
   pub adds_one : (line : tree.Line) (known : ℕ) (old new : List Line) (places places' : List ℕ) (place : ℕ) → lines_of b new ≡ lines_of b old ++ line ∷ [] → place ≡ known + length old → places' ≡ places ++ place ∷ [] →
@@ -161,7 +161,7 @@ module _ (b : Forms) (apart : AreApart b) (fs : List TermShape) (forms : AreForm
     -- any place will do for a join that isn't needed
     pub place_of_none : (places : List ℕ) (place : ℕ) (old new : List Line) → new ≡ old → ArePlaced b ms es count marks places old → (slice_get marks (length places) ≡ Some true → ⊥) → ArePlaced b ms es count marks (places ++ place ∷ []) new
     place_of_none places place old new same before none =
-        one_more_place places place old new [] (ap (lines_of b) same ∙ sym (nothing_behind (lines_of b old))) before
+        one_more_place places place old new [] (ap (lines_of b) same ∙ sym (nothing_after (lines_of b old))) before
         (λ cs premises goal known are sorted. subst (λ ls. Lead cs premises goal known (lines_of b ls)) (sym same) (before.leads cs premises goal known are sorted))
         (λ cs known are sorted e at marked. absurd (none marked))
 
@@ -181,7 +181,7 @@ module _ (b : Forms) (apart : AreApart b) (fs : List TermShape) (forms : AreForm
         ArePlaced b ms es count marks places old → ArePlaced b ms es count marks (places ++ place ∷ []) new
     place_of_merge places place old new e k at_e c by before =
         let w = by c.merge c.at in
-        one_more_place places place old new [] (w.0 ∙ sym (nothing_behind (lines_of b old))) before
+        one_more_place places place old new [] (w.0 ∙ sym (nothing_after (lines_of b old))) before
         (λ cs premises goal known are sorted. subst (λ ls. Lead cs premises goal known ls) (sym w.0) (before.leads cs premises goal known are sorted))
         (λ cs known are sorted d at marked. subst (λ z. is_joined (At z.left) (At z.right) (slice_get (known ++ facts_said (lines_of b new)) place) ≡ true) (one_there es (length places) e d at_e at)
         (ap (λ q. is_joined (At e.left) (At e.right) (slice_get (known ++ facts_said (lines_of b new)) q)) w.1

@@ -52,7 +52,7 @@ fn path(
     Ok(path)
 }
 
-/// One more line, and the place of what it makes known behind so many formulas.
+/// One more line, and the place of what it makes known after so many formulas.
 pub(crate) fn add(known: usize, lines: &mut Vec<Line>, line: Line) -> Result<usize, AllocError>
     ensures added { OnOk result (lines.new.items ≡ lines.old.items ++ line ∷ []) }
     ensures place { IfOk result (λ p. p ≡ known + length lines.old.items) }

@@ -223,7 +223,7 @@ impl Engine {
         }
     }
 
-    // The lines of a proof, where there is one. Of what came behind the mark the bank forgets all that they don't name.
+    // The lines of a proof, where there is one. Of what came after the mark the bank forgets all that they don't name.
     fn write(
         &mut self,
         bank: &mut Bank,

@@ -18,7 +18,7 @@ pub enum Order {
     Last,
 }
 
-// The place that comes after so many, from a place on. Behind the last one comes the first.
+// The place that comes after so many, from a place on. After the last one comes the first.
 fn place_in(order: Order, from: usize, turn: usize, count: usize) -> usize {
     let at = from.saturating_add(turn);
     let place = if at < count {

@@ -144,7 +144,7 @@ impl Facts {
         }
     }
 
-    /// Puts numbers behind the paths. Gives where they stand.
+    /// Puts numbers after the paths. Gives where they stand.
     pub fn keep(&mut self, numbers: &[usize]) -> Result<Range, AllocError> {
         let from = self.paths.len();
         for number in numbers {

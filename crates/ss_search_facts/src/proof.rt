@@ -144,7 +144,7 @@ impl Proof {
         self.put(above, whole);
     }
 
-    /// The block behind a block, in the order of the text, inside a root. NONE at the end.
+    /// The block after a block, in the order of the text, inside a root. NONE at the end.
     pub fn after(&self, number: usize, root: usize) -> usize {
         let mut at = number;
         let mut next = self.block(at).first;

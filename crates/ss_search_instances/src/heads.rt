@@ -89,7 +89,7 @@ impl Heads {
         }
     }
 
-    // The last head that is left of the kind, the number and the store of one that is gone has none behind it.
+    // The last head that is left of the kind, the number and the store of one that is gone has none after it.
     fn unlink(&mut self, gone: Pattern) {
         let last = LAST.saturating_add(gone.kind);
         let before = self.places.value(last, gone.number, gone.store);
@@ -352,7 +352,7 @@ impl Heads {
         Ok(())
     }
 
-    // One more head, behind those of its kind, number and store.
+    // One more head, after those of its kind, number and store.
     fn add(&mut self, pattern: Pattern) -> Result<(), AllocError> {
         let at = self.patterns.len();
         let (number, store) = (pattern.number, pattern.store);

@@ -27,7 +27,7 @@ struct NamedPair {
     form: Formula,
 }
 
-/// No name of what the bank has behind a mark.
+/// No name of what the bank has after a mark.
 pub fn no_names(alloc: Global, bank: &Bank, mark: BankMark) -> Result<Names, AllocError> {
     Names::new(
         alloc,
@@ -36,7 +36,7 @@ pub fn no_names(alloc: Global, bank: &Bank, mark: BankMark) -> Result<Names, All
     )
 }
 
-/// Forgets what came behind a mark, but for what is named and what stands in it. That gets new numbers.
+/// Forgets what came after a mark, but for what is named and what stands in it. That gets new numbers.
 pub fn keep_named(
     alloc: Global,
     bank: &mut Bank,

@@ -25,7 +25,7 @@ fn next_places(alloc: Global, found: &[Whole]) -> Result<Vec<usize>, AllocError>
     Ok(places)
 }
 
-// Adds the term at a place with each one behind it that is of its class.
+// Adds the term at a place with each one after it that is of its class.
 fn add_pairs(
     found: &[Whole],
     nexts: &[usize],

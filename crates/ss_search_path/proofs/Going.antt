@@ -49,11 +49,11 @@ other_cut (Forall ss f) h c = absurd (true≢false c)
 other_cut (Exists ss f) h c = absurd (true≢false c)
 
 module _ (cs : List ClassTree) (premises : List Formula) (goal : Formula) (b : Forms) where
-  leads_as : (start : List Formula) (before before' : List tree.Line) (known known' : List Formula) (behind behind' : List tree.Line) → before ≡ before' → known ≡ known' → behind ≡ behind' →
-      Leads cs premises goal start before known behind → Leads cs premises goal start before' known' behind'
-  leads_as start before before' known known' behind behind' e f g l =
-      subst (λ ls. Leads cs premises goal start ls known' behind') e
-      (subst (λ fs. Leads cs premises goal start before fs behind') f
+  leads_as : (start : List Formula) (before before' : List tree.Line) (known known' : List Formula) (behind after' : List tree.Line) → before ≡ before' → known ≡ known' → behind ≡ after' →
+      Leads cs premises goal start before known behind → Leads cs premises goal start before' known' after'
+  leads_as start before before' known known' behind after' e f g l =
+      subst (λ ls. Leads cs premises goal start ls known' after') e
+      (subst (λ fs. Leads cs premises goal start before fs after') f
       (subst (λ ls. Leads cs premises goal start before known ls) g l))
 
   known_more : (p q : Path) (f : FormulaId) → q.known.items ≡ p.known.items ++ f ∷ [] → known_on b q ≡ known_on b p ++ formula_at b f ∷ []
@@ -222,8 +222,8 @@ module _ (cs : List ClassTree) (premises : List Formula) (goal : Formula) (b : F
     now_before : (cut : Bool) → is_cut (formula_at b f) ≡ cut → now.before.items ≡ (at.before.items ++ opening cut f) ++ t.since.added
     now_before cut e = before_is m (opening (is_cut (formula_at b f)) f) f at trial now t ∙ ap (λ c. (at.before.items ++ opening c f) ++ t.since.added) e
 
-    now_behind : now.behind.items ≡ at.behind.items ++ t.since.ending
-    now_behind = behind_is m (opening (is_cut (formula_at b f)) f) f at trial now t
+    now_after : now.behind.items ≡ at.behind.items ++ t.since.ending
+    now_after = behind_is m (opening (is_cut (formula_at b f)) f) f at trial now t
 
     in_front : is_cut (formula_at b f) ≡ true → GoesOn cs premises goal b at new
     in_front cut = record {
@@ -233,7 +233,7 @@ module _ (cs : List ClassTree) (premises : List Formula) (goal : Formula) (b : F
           ∙ ap (λ xs. ((xs ++ closing) ++ reverse (drop m.behind now.behind.items)) ++ Case ∷ []) (now_before true cut)
           ∙ ap (λ xs. ((((at.before.items ++ Cut f ∷ Case ∷ []) ++ t.since.added) ++ closing) ++ reverse xs) ++ Case ∷ []) (ending_is m (opening (is_cut (formula_at b f)) f) f at trial now t)
           ∙ regroup_front at.before.items (Cut f ∷ Case ∷ []) t.since.added closing (reverse t.since.ending) (Case ∷ []);
-      behind = behind ∙ (turned.front cut).1 ∙ ap (take m.behind) now_behind ∙ take_at at.behind.items t.since.ending m.behind (sym t.mark.behind) ∙ sym (append-nil at.behind.items);
+      behind = behind ∙ (turned.front cut).1 ∙ ap (take m.behind) now_after ∙ take_at at.behind.items t.since.ending m.behind (sym t.mark.behind) ∙ sym (append-nil at.behind.items);
       leads = leads_as (known_on b at) (tree.Cut (formula_at b f) ∷ tree.Case ∷ (lines_of b lines ++ (tree.Case ∷ []))) (lines_of b (Cut f ∷ Case ∷ (lines ++ Case ∷ [])))
           (known_on b at ++ neg (formula_at b f) ∷ []) (known_on b new) [] []
           (ap (λ l. l ∷ tree.Case ∷ (lines_of b lines ++ (tree.Case ∷ []))) (sym (cut_line b f has)) ∙ ap (λ ls. line_of b (Cut f) ∷ tree.Case ∷ ls) (sym (lines_append b lines (Case ∷ []))))
@@ -251,7 +251,7 @@ module _ (cs : List ClassTree) (premises : List Formula) (goal : Formula) (b : F
         ending = ((t.since.ending ++ reverse closing) ++ reverse t.since.added) ++ Case ∷ [];
         before = before ∙ (turned.back cut).0 ∙ ap (λ xs. xs ++ Cut g ∷ Case ∷ []) (ap (take m.before) before_there ∙ take_at at.before.items t.since.added m.before (sym t.mark.before));
         behind = behind ∙ (turned.back cut).1
-            ∙ ap (λ xs. ((xs ++ reverse closing) ++ reverse (drop m.before now.before.items)) ++ Case ∷ []) now_behind
+            ∙ ap (λ xs. ((xs ++ reverse closing) ++ reverse (drop m.before now.before.items)) ++ Case ∷ []) now_after
             ∙ ap (λ xs. (((at.behind.items ++ t.since.ending) ++ reverse closing) ++ reverse xs) ++ Case ∷ []) (ap (drop m.before) before_there ∙ drop_at at.before.items t.since.added m.before (sym t.mark.before))
             ∙ regroup_back at.behind.items t.since.ending (reverse closing) (reverse t.since.added) (Case ∷ []);
         leads = leads_as (known_on b at) (tree.Cut (neg (formula_at b f)) ∷ tree.Case ∷ []) (lines_of b (Cut g ∷ Case ∷ []))

@@ -34,7 +34,7 @@ known_one_more b old new f e = ap (formulas_at b) e ∙ map_push (formula_at b) 
 pub kept_one_more : (old new : Path) (f : FormulaId) → new.known.items ≡ old.known.items ++ f ∷ [] → take (length old.known.items) new.known.items ≡ old.known.items
 kept_one_more old new f e = ap (take (length old.known.items)) e ∙ take_at old.known.items (f ∷ []) (length old.known.items) refl
 
--- the last one, behind so many
+-- the last one, after so many
 pub last_known : (b : Forms) (old new : Path) (f : FormulaId) (place : ℕ) → new.known.items ≡ old.known.items ++ f ∷ [] → place ≡ length old.known.items → slice_get (known_on b new) place ≡ Some (formula_at b f)
 last_known b old new f place e at =
     ap (λ xs. slice_get xs place) (known_one_more b old new f e)
@@ -169,7 +169,7 @@ module _ (cs : List ClassTree) (g : Given) (old new : Path) (place from part : �
         part_formed = ap (is_well_formed cs []) is ∙ listed_formed cs a.0 part p.0 a.2 p.1;
       }
 
-  -- the part is known behind the others
+  -- the part is known after the others
   pub case_stands : (next : ℕ) → next ≡ length old.known.items → new.known.items ≡ old.known.items ++ f ∷ [] → IsFact cs g (known_on g.bank.now new) next from x
   case_stands next is_next more =
       let p = case_there in

@@ -74,7 +74,7 @@ pub record EndsWith (b : Forms) (front : List FormulaId) (f : Formula) (known : 
 abbrev pub opening : Bool → FormulaId → List Line
 opening cut f = if cut then Cut f ∷ Case ∷ [] else []
 
--- a case of the formula begins behind these lines
+-- a case of the formula begins after these lines
 pub record BeginsCase (front : List Line) (f : FormulaId) (at trial : Path) : Type 0 where
   pub before : trial.before.items ≡ at.before.items ++ front
   pub behind : trial.behind.items ≡ at.behind.items
@@ -91,7 +91,7 @@ pub record IsTrial (cs : List ClassTree) (premises : List Formula) (goal : Formu
   pub since : GoesOn cs premises goal b trial now
   pub kept : take (length at.known.items) now.known.items ≡ at.known.items
 
--- The closed case of the supposed formula stands in front of the case of its negation; or behind it, where the negation is cut.
+-- The closed case of the supposed formula stands in front of the case of its negation; or after it, where the negation is cut.
 pub record IsTurned (b : Forms) (m : Mark) (f negation : FormulaId) (closing : List Line) (old new : Path) : Type 0 where
   pub front : is_cut (formula_at b f) ≡ true → (new.before.items ≡ ((old.before.items ++ closing) ++ reverse (drop m.behind old.behind.items)) ++ Case ∷ []) × (new.behind.items ≡ take m.behind old.behind.items)
   pub back : is_cut (formula_at b f) ≡ false → (new.before.items ≡ take m.before old.before.items ++ Cut negation ∷ Case ∷ []) × (new.behind.items ≡ ((old.behind.items ++ reverse closing) ++ reverse (drop m.before old.before.items)) ++ Case ∷ [])

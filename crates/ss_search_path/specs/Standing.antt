@@ -59,7 +59,7 @@ parts_of f = []
 
 -- ---- opening
 
--- From one choice on, this is the first that opens the formula: its body is opened by those behind it.
+-- From one choice on, this is the first that opens the formula: its body is opened by those after it.
 pub record OpensAt (g : Given) (from i : ℕ) (f : Formula) : Type 0 where
   pub choice : words.Choice
   pub at : slice_get (choices_in g) i ≡ Some choice

@@ -45,7 +45,7 @@ impl Path {
         Ok(())
     }
 
-    // Closed cases for behind, and what is known in the open one.
+    // Closed cases for after, and what is known in the open one.
     fn leave(&mut self, mut closed: Vec<Line>, f: FormulaId) -> Result<(), AllocError>
         ensures before { OnOk result (self.new.before.items ≡ self.old.before.items) }
         ensures behind { OnOk result (self.new.behind.items ≡ self.old.behind.items ++ reverse closed.items) }
@@ -56,7 +56,7 @@ impl Path {
         Ok(())
     }
 
-    /// Of a known `or` this part is known. Each other part has a case that is closed: those in front of it, and those behind it.
+    /// Of a known `or` this part is known. Each other part has a case that is closed: those in front of it, and those after it.
     pub fn unit(
         &mut self,
         bank: &Bank,

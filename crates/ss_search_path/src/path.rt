@@ -11,7 +11,7 @@ use ss_deriv::Line;
 use ss_terms::FormulaId;
 use std::alloc::{AllocError, Global};
 
-/// Lines of a case that goes on: those before what is still to come, and those behind it, the last of them first. The numbers of the
+/// Lines of a case that goes on: those before what is still to come, and those after it, the last of them first. The numbers of the
 /// formulas that are known between them, in the order of their places.
 #[derive(Drop)]
 pub struct Path {

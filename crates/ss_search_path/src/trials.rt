@@ -72,7 +72,7 @@ impl Path {
         Ok(())
     }
 
-    // The closed case of a supposed formula is moved behind the case of its negation.
+    // The closed case of a supposed formula is moved after the case of its negation.
     fn close_back(&mut self, mark: Mark, mut closing: Vec<Line>) -> Result<(), AllocError>
         ensures before { OnOk result (self.new.before.items ≡ take mark.before self.old.before.items) }
         ensures behind { OnOk result (self.new.behind.items ≡ ((self.old.behind.items ++ reverse closing.items) ++ reverse (drop mark.before self.old.before.items)) ++ Case ∷ []) }

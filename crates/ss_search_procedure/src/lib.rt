@@ -1,4 +1,4 @@
-//! The procedure behind the search: it decides of a ground form within the splits, or says that they are too few. It begins with choices, premises,
+//! The procedure after the search: it decides of a ground form within the splits, or says that they are too few. It begins with choices, premises,
 //! the denied goal and instances of rules.
 #![tactic(auto)]
 

@@ -1,4 +1,4 @@
-// What lines name behind a mark of the bank, and the numbers that it has once the rest is forgotten.
+// What lines name after a mark of the bank, and the numbers that it has once the rest is forgotten.
 
 use ss_search_question::{NONE, first_of, is_first, pair_of, second_of};
 use std::alloc::{AllocError, Global};
@@ -56,7 +56,7 @@ impl Behind {
     }
 }
 
-/// The terms and the pairs of formulas behind a mark: which are named, and the new numbers of those.
+/// The terms and the pairs of formulas after a mark: which are named, and the new numbers of those.
 #[derive(Drop)]
 pub struct Names {
     terms: Behind,
@@ -76,22 +76,22 @@ impl Names {
         })
     }
 
-    /// The number behind the terms.
+    /// The number after the terms.
     pub fn term_end(&self) -> usize {
         self.terms.end()
     }
 
-    /// The number behind the pairs.
+    /// The number after the pairs.
     pub fn pair_end(&self) -> usize {
         self.pairs.end()
     }
 
-    /// The first term behind the mark.
+    /// The first term after the mark.
     pub fn first_term(&self) -> usize {
         self.terms.from
     }
 
-    /// The first pair behind the mark.
+    /// The first pair after the mark.
     pub fn first_pair(&self) -> usize {
         self.pairs.from
     }
@@ -106,12 +106,12 @@ impl Names {
         self.pairs.put(pair_of(formula), NAMED);
     }
 
-    /// Whether a term behind the mark is named.
+    /// Whether a term after the mark is named.
     pub fn has_term(&self, term: usize) -> bool {
         self.terms.is_named(term)
     }
 
-    /// Whether a formula of a pair behind the mark is named.
+    /// Whether a formula of a pair after the mark is named.
     pub fn has_pair(&self, pair: usize) -> bool {
         self.pairs.is_named(pair)
     }

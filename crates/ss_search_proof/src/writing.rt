@@ -39,7 +39,7 @@ fn name_all(facts: &Facts, proof: &Proof, root: usize, names: &mut Names) {
     }
 }
 
-// Names what a fact and those behind it in its block name.
+// Names what a fact and those after it in its block name.
 fn name_block(facts: &Facts, first: usize, names: &mut Names) {
     let mut at = first;
     for _ in 0..facts.len() {
@@ -284,7 +284,7 @@ fn meet(proof: &Proof, first: usize, second: usize) -> usize {
     at
 }
 
-/// The lines so far, how many facts are known behind them, and the numbers of what they name.
+/// The lines so far, how many facts are known after them, and the numbers of what they name.
 #[derive(Drop)]
 struct Writer {
     alloc: Global,

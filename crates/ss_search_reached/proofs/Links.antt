@@ -29,7 +29,7 @@ neighbours_next (s ∷ []) i d l = absurd (omega (arith, l))
 neighbours_next (s ∷ t ∷ ts) zero d l = refl
 neighbours_next (s ∷ t ∷ ts) (suc i) d l = neighbours_next (t ∷ ts) i d (omega (arith, l))
 
--- the last one has none behind it
+-- the last one has none after it
 neighbours_last : (ts : List TermId) (i : ℕ) → length ts ≤ suc i → neighbours (drop i ts) ≡ []
 neighbours_last [] zero l = refl
 neighbours_last [] (suc i) l = refl
@@ -161,7 +161,7 @@ module _ (cs : List ClassTree) (b : Forms) (v : Term → ℤ) where
   met_all [] h = tt
   met_all (p ∷ ps) h = (h p (contains_head p ps), met_all ps (λ q c. h q (contains_cons p ps q c)))
 
-  -- those behind a term come to its number
+  -- those after a term come to its number
   along : (z : ℤ) (s : TermId) → ComesTo z s → (ts : List TermId) → ((p : TermId × TermId) → Contains (neighbours (s ∷ ts)) p → IsSaid p) → (t : TermId) → Contains ts t → ComesTo z t
   along z s c [] h t k = absurd (contains_none t k)
   along z s c (u ∷ ts) h t k =

@@ -31,7 +31,7 @@ use Rattle.ss_search_reaching.specs.declared.branches.Resolved.{Resolved}
 use Rattle.ss_search_reaching.specs.declared.branches.Resolved.TheVariants as resolved
 use Rattle.ss_search_reaching.specs.Units.{IsBeside, IsResolved, part_of, UnitFrom}
 
--- the elements before one, it, and those behind it
+-- the elements before one, it, and those after it
 split_at : {A : Type 0} (xs : List A) (i : ℕ) (x : A) → slice_get xs i ≡ Some x → xs ≡ take i xs ++ x ∷ drop (suc i) xs
 split_at [] i x e = cc
 split_at (y ∷ xs) zero x e = let same : y ≡ x = cc in ap (λ z. z ∷ xs) same

@@ -36,7 +36,7 @@ pub(crate) enum Resolved {
 }
 
 impl Beside<'_> {
-    // This part is known, where the cases of all others are closed: those in front of it, and those behind.
+    // This part is known, where the cases of all others are closed: those in front of it, and those after.
     fn one(
         &self,
         path: &mut Path,

@@ -21,7 +21,7 @@ impl State {
         self.reasons.facts.origin(fact)
     }
 
-    /// Puts numbers behind the paths. Gives where they stand.
+    /// Puts numbers after the paths. Gives where they stand.
     pub fn keep(&mut self, numbers: &[usize]) -> Result<Range, AllocError> {
         self.reasons.facts.keep(numbers)
     }

@@ -54,9 +54,9 @@ module _ (b : Forms) where
   pub ones_more : (fs : List FormulaId) (i : ℕ) (d : FormulaId) (old new : List FormulaId) → i < length fs → old ≡ basic_ones b (take i fs) → new ≡ old ++ (if is_one (get_or fs i d) then get_or fs i d ∷ [] else []) → new ≡ basic_ones b (take (i + 1) fs)
   ones_more fs i d old new l h is = is ∙ ap (λ (xs : List FormulaId). xs ++ (if is_one (get_or fs i d) then get_or fs i d ∷ [] else [])) h ∙ sym (filter_more is_one fs i d l)
 
-  first_behind : (p : ℕ) (qs rs more : List ℕ) (v : Bool) → qs ≡ rs ++ more → (if v then p ∷ qs else qs) ≡ (if v then p ∷ rs else rs) ++ more
-  first_behind p qs rs more true h = ap (λ (xs : List ℕ). p ∷ xs) h
-  first_behind p qs rs more false h = h
+  first_after : (p : ℕ) (qs rs more : List ℕ) (v : Bool) → qs ≡ rs ++ more → (if v then p ∷ qs else qs) ≡ (if v then p ∷ rs else rs) ++ more
+  first_after p qs rs more true h = ap (λ (xs : List ℕ). p ∷ xs) h
+  first_after p qs rs more false h = h
 
   places_next : (i : ℕ) (fs : List FormulaId) (ps : List ℕ) (f : FormulaId) (p : ℕ) → slice_get fs i ≡ Some f → slice_get ps i ≡ Some p →
       basic_places b (take (suc i) fs) (take (suc i) ps) ≡ basic_places b (take i fs) (take i ps) ++ (if is_one f then p ∷ [] else [])
@@ -67,7 +67,7 @@ module _ (b : Forms) where
       let two : c ≡ p = cc in
       ap (λ (z : FormulaId). if is_one z then c ∷ [] else []) one ∙ ap (λ (z : ℕ). if is_one f then z ∷ [] else []) two
   places_next (suc i) (a ∷ fs) (c ∷ ps) f p x y =
-      first_behind c (basic_places b (take (suc i) fs) (take (suc i) ps)) (basic_places b (take i fs) (take i ps)) (if is_one f then p ∷ [] else []) (is_one a) (places_next i fs ps f p x y)
+      first_after c (basic_places b (take (suc i) fs) (take (suc i) ps)) (basic_places b (take i fs) (take i ps)) (if is_one f then p ∷ [] else []) (is_one a) (places_next i fs ps f p x y)
 
   pub places_more : (fs : List FormulaId) (ps : List ℕ) (i : ℕ) (d : FormulaId) (e : ℕ) (old new : List ℕ) → i < length fs → length ps ≡ length fs → old ≡ basic_places b (take i fs) (take i ps) →
       new ≡ old ++ (if is_one (get_or fs i d) then get_or ps i e ∷ [] else []) → new ≡ basic_places b (take (i + 1) fs) (take (i + 1) ps)

@@ -133,17 +133,17 @@ module _ (cs : List ClassTree) (facts known : List Formula) (places : List ℕ) 
         (closed r ss (rs ++ h.0 ∷ []) q (more_formed cs [] rs (h.0 ∷ []) well (formed_next, tt)) (λ i u. at i (or_right (list_any (λ p. p.0 == i) s.1) (uses (r ∷ ss) i) u)) next
         (subst (λ (ks : List Formula). Refute cs ks (r ∷ ss)) (append_assoc facts rs (h.0 ∷ [])) h.2)))
 
-none_behind : {A : Type 0} (xs : List A) → xs ++ [] ≡ xs
-none_behind [] = refl
-none_behind (x ∷ xs) = ap (λ ys. x ∷ ys) (none_behind xs)
+none_after : {A : Type 0} (xs : List A) → xs ++ [] ≡ xs
+none_after [] = refl
+none_after (x ∷ xs) = ap (λ ys. x ∷ ys) (none_after xs)
 
 closed_all : (cs : List ClassTree) (premises : List Formula) (goal : Formula) (facts known : List Formula) (places : List ℕ) (count : ℕ) (ss : Sums) (q : ℕ) → length known ≡ count → StandAt known facts places ss → AreWellFormed cs [] facts → q ≡ count + (length ss - 1) → Refute cs facts ss →
     Closes cs premises goal known (map (sum_line places count) ss ++ tree.Clash q q ∷ [])
 closed_all cs premises goal facts known places count [] q many at formed is h = absurd h
 closed_all cs premises goal facts known places count (s ∷ ss) q many at formed is h =
-    subst (λ (ks : List Formula). Closes cs premises goal ks (map (sum_line places count) (s ∷ ss) ++ tree.Clash q q ∷ [])) (none_behind known)
+    subst (λ (ks : List Formula). Closes cs premises goal ks (map (sum_line places count) (s ∷ ss) ++ tree.Clash q q ∷ [])) (none_after known)
     (closed cs facts known places count many at.long premises goal formed s ss [] q tt (λ i u f e. at.at i f u e) (omega (arith, is))
-    (subst (λ (ks : List Formula). Refute cs ks (s ∷ ss)) (sym (none_behind facts)) h))
+    (subst (λ (ks : List Formula). Refute cs ks (s ∷ ss)) (sym (none_after facts)) h))
 
 length_sums : (sums : List Sum) → length (sums_of sums) ≡ length sums
 length_sums [] = refl

@@ -22,7 +22,7 @@ use Rattle.ss_search_clashes.specs.Closing.{Closes}
 use Rattle.ss_search_clashes.specs.Leading.{Leads}
 use Rattle.ss_search_clashes.proofs.Leading.{goes_on, at_front, at_end}
 use Rattle.ss_search_clashes.specs.Said.{facts_said, AreKnown}
-use Rattle.ss_search_clashes.proofs.Lists.{nothing_behind, one_there}
+use Rattle.ss_search_clashes.proofs.Lists.{nothing_after, one_there}
 use Rattle.ss_search_clashes.proofs.Lines.{behind_first, no_line}
 use Rattle.ss_search_clashes.proofs.Places.{known_long}
 use Rattle.ss_search_clashes.proofs.Sorts.{formed_parts}
@@ -36,9 +36,9 @@ front_formed : (cs : List ClassTree) (fs gs : List Formula) → AreWellFormed cs
 front_formed cs [] gs h = tt
 front_formed cs (f ∷ fs) gs h = (h.0, front_formed cs fs gs h.1)
 
-behind_formed : (cs : List ClassTree) (fs gs : List Formula) → AreWellFormed cs [] (fs ++ gs) → AreWellFormed cs [] gs
-behind_formed cs [] gs h = h
-behind_formed cs (f ∷ fs) gs h = behind_formed cs fs gs h.1
+after_formed : (cs : List ClassTree) (fs gs : List Formula) → AreWellFormed cs [] (fs ++ gs) → AreWellFormed cs [] gs
+after_formed cs [] gs h = h
+after_formed cs (f ∷ fs) gs h = after_formed cs fs gs h.1
 
 -- one more fact, and its place
 stand_more : (known more facts : List Formula) (own : List ℕ) (ss : Sums) (f : Formula) (place : ℕ) → StandAt known facts own ss → (uses ss (length own) ≡ true → slice_get (known ++ more) place ≡ Some f) →
@@ -81,7 +81,7 @@ module _ (b : Forms) (ms : List Merge) (count : ℕ) (ss : Sums) (places : List 
       first : Written [] places []
       first = record {
         leads = λ cs premises goal known are formed. no_line cs premises goal known;
-        stand = λ known facts many at. subst (λ (fs : List Formula). StandAt fs (facts ++ []) places ss) (sym (nothing_behind known)) (subst (λ (fs : List Formula). StandAt known fs places ss) (sym (nothing_behind facts)) at);
+        stand = λ known facts many at. subst (λ (fs : List Formula). StandAt fs (facts ++ []) places ss) (sym (nothing_after known)) (subst (λ (fs : List Formula). StandAt known fs places ss) (sym (nothing_after facts)) at);
         long = let z : length places ≡ length places + length {A = TermId × TermId} [] = omega arith in z;
       }
 
@@ -100,7 +100,7 @@ module _ (b : Forms) (ms : List Merge) (count : ℕ) (ss : Sums) (places : List 
       leads = λ cs premises goal known are formed. w.leads cs premises goal known are (front_formed cs (equalities_at b ps) (equality_at b p ∷ []) (subst (λ (fs : List Formula). AreWellFormed cs [] fs) all_said formed));
       stand = λ known facts many at.
           subst (λ (fs : List Formula). StandAt (known ++ said old) fs (before ++ place ∷ []) ss) (all_facts facts)
-          (subst (λ (ks : List Formula). StandAt ks ((facts ++ equalities_at b ps) ++ equality_at b p ∷ []) (before ++ place ∷ []) ss) (nothing_behind (known ++ said old))
+          (subst (λ (ks : List Formula). StandAt ks ((facts ++ equalities_at b ps) ++ equality_at b p ∷ []) (before ++ place ∷ []) ss) (nothing_after (known ++ said old))
           (stand_more (known ++ said old) [] (facts ++ equalities_at b ps) before ss (equality_at b p) place (w.stand known facts many at) (λ u. absurd (false≢true (sym none ∙ u)))));
       long = longer place;
     }
@@ -121,7 +121,7 @@ module _ (b : Forms) (ms : List Merge) (count : ℕ) (ss : Sums) (places : List 
       leads_on : (cs : List ClassTree) (premises : List Formula) (goal : Formula) (known : List Formula) → AreKnown cs b ms count known → AreWellFormed cs [] (equalities_at b (ps ++ p ∷ [])) → Leads cs premises goal known (lines_of b new) (known ++ said new) []
       leads_on cs premises goal known are formed =
           let all = subst (λ (fs : List Formula). AreWellFormed cs [] fs) all_said formed in
-          let last = behind_formed cs (equalities_at b ps) (equality_at b p ∷ []) all in
+          let last = after_formed cs (equalities_at b ps) (equality_at b p ∷ []) all in
           subst (λ (ls : List tree.Line). Leads cs premises goal known ls (known ++ said new) []) (sym lines_new)
           (subst (λ (fs : List Formula). Leads cs premises goal known (lines_of b old ++ lines_of b a.more) fs []) (known_new known)
           (goes_on cs premises goal known (known ++ said old) ((known ++ said old) ++ said a.more) (lines_of b old) (lines_of b a.more) [] []
@@ -157,9 +157,9 @@ module _ (b : Forms) (ms : List Merge) (count : ℕ) (ss : Sums) (places : List 
   closes_with ps own lines closing new n w long close is = record {
     closes = λ cs premises goal known facts are at formed h.
         let c = close.closes b cs premises goal (known ++ said lines) (facts ++ equalities_at b ps) (known_long b known lines ∙ ap (λ k. k + length lines) are.many ∙ sym long) (w.stand known facts are.many at) formed h in
-        let leads = w.leads cs premises goal known are (behind_formed cs facts (equalities_at b ps) formed) in
+        let leads = w.leads cs premises goal known are (after_formed cs facts (equalities_at b ps) formed) in
         subst (λ (ls : List tree.Line). Closes cs premises goal known ls)
-        (ap (λ ls. lines_of b lines ++ ls) (nothing_behind (lines_of b closing)) ∙ sym (map-append (line_of b) lines closing) ∙ ap (lines_of b) (sym is))
+        (ap (λ ls. lines_of b lines ++ ls) (nothing_after (lines_of b closing)) ∙ sym (map-append (line_of b) lines closing) ∙ ap (lines_of b) (sym is))
         (leads.closes (lines_of b closing) c);
   }
 

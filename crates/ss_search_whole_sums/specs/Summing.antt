@@ -19,7 +19,7 @@ Sums = List (ℤ × List (ℕ × ℤ))
 abbrev pub uses : Sums → ℕ → Bool
 uses ss i = list_any (λ s. list_any (λ p. p.0 == i) s.1) ss
 
--- Where what stood at a place stands now. A fact stands at its place in the list. What sums give, which stood behind the facts, stands behind so many
+-- Where what stood at a place stands now. A fact stands at its place in the list. What sums give, which stood after the facts, stands after so many
 -- known formulas.
 abbrev pub moved : List ℕ → ℕ → ℕ → ℕ
 moved places known i = if nat_lt i (length places) then slice_index places i else known + (i - length places)

@@ -15,7 +15,7 @@ use ss_search_clashes::{CongruenceContext, equate};
 use ss_terms::{FormulaId, TermId};
 use std::alloc::{AllocError, Global};
 
-// The places of facts and of equalities behind them, and the lines that make the equalities known.
+// The places of facts and of equalities after them, and the lines that make the equalities known.
 #[derive(Drop)]
 struct Written {
     places: Vec<usize>,
@@ -62,7 +62,7 @@ fn write(
     Ok(())
 }
 
-// The same where the sums use the equality, which stands behind all that has a place. Else any place serves.
+// The same where the sums use the equality, which stands after all that has a place. Else any place serves.
 fn write_used(
     context: &CongruenceContext<'_>,
     sums: &[Sum],
@@ -103,7 +103,7 @@ fn write_all(
     Ok(written)
 }
 
-// Lines that close a case, where sums of facts and of equalities behind them end in what is false. `places` has the place of each fact
+// Lines that close a case, where sums of facts and of equalities after them end in what is false. `places` has the place of each fact
 // among so many known formulas. The equalities follow by congruence from those of the merges, which are known at their reasons. An
 // error is want of memory.
 fn contradict(

@@ -132,7 +132,7 @@ countered_more ls l n e = map_push (λ x. x.obligation) ls l ∙ ap (λ k. count
 undecided_more : (ls : List Undecided) (l : Undecided) (n : ℕ) → l.obligation ≡ n → undecided_numbers (ls ++ l ∷ []) ≡ undecided_numbers ls ++ n ∷ []
 undecided_more ls l n e = map_push (λ x. x.obligation) ls l ∙ ap (λ k. undecided_numbers ls ++ k ∷ []) e
 
--- where the numbers are those before with n behind them
+-- where the numbers are those before with n after them
 module _ (low n : ℕ) (ks more : List ℕ) (e : more ≡ ks ++ n ∷ []) where
   pushed_rise : low ≤ n → AreRisingFrom low ks → AreNumbersBelow n ks → AreRisingFrom low more
   pushed_rise below h all = rw e (rising_push low n ks below h all)

@@ -1,4 +1,4 @@
--- Safely from a point: no check fails in the code, and behind it `Q` holds, whatever a call gives back that its callee's contract allows.
+-- Safely from a point: no check fails in the code, and after it `Q` holds, whatever a call gives back that its callee's contract allows.
 use Rattle.std.specs.Prelude.{◌≡◌, ℕ, ℤ, List, [], ◌∷◌, map, length, Bool, true, false, if◌then◌else◌, Option, Some, None, slice_get, Result, Ok, Err}
 use Rattle.ss_core.specs.declared.names.Kind.{Kind}
 use Rattle.ss_core.specs.Tree.{ExprTree, CalleeTree, Dispatched, Static, Base, BaseConstructor, ExposedTree, StmtTree, AssignStmt, WriteStmt, WriteElementStmt, NewStmt, NewArrayStmt, CallStmt, ReadyStmt, IfStmt, LoopStmt, UnpackStmt, PackStmt, AssertStmt, AssumeStmt, PrintStmt, PrintTextStmt, ReturnStmt, CodeTree, NoCode, Then, BodyTree, CoreTree}
@@ -21,7 +21,7 @@ use Rattle.ss_machine_good.specs.Later.{IsLater}
 use Rattle.ss_machine_good.specs.LaterFrames.{IsAnswer}
 use Rattle.ss_logic.specs.Values.{Table}
 use Rattle.ss_vcgen_heaps.specs.Contracts.{called}
-use Rattle.ss_sound_outcomes.specs.Points.{Activation, Point, frame_at, scene, HasGrown, Fits, IsSound, entry_size, IsReached, IsBehind, ArePassed}
+use Rattle.ss_sound_outcomes.specs.Points.{Activation, Point, frame_at, scene, HasGrown, Fits, IsSound, entry_size, IsReached, IsAfter, ArePassed}
 
 -- ---- values and changes
 
@@ -30,9 +30,9 @@ abbrev pub Has : {A E : Type 0} → Result A E → (A → Type 0) → Type 0
 Has (Ok v) P = P v
 Has (Err e) P = ⊥
 
--- this holds of the point q behind the statement, where what holds of each such point of a run does
+-- this holds of the point q after the statement, where what holds of each such point of a run does
 abbrev pub GoesOn : Activation → StmtTree → (Point → Type 0) → Point → Point → Type 0
-GoesOn a s Q p q = IsSound a q → IsBehind a s p q → Q q
+GoesOn a s Q p q = IsSound a q → IsAfter a s p q → Q q
 
 abbrev pub with_local : Option ℕ → Value → Point → Point
 with_local x v p = record p { locals = put x v p.locals }
@@ -88,7 +88,7 @@ Calls a u Q p x (BaseConstructor n) es = Has (values_of es (scene a p)) (λ vs. 
 
 -- ---- new objects
 
--- The store s has the new object already. A constructor returns like a body that was called, and its object is ready only behind that.
+-- The store s has the new object already. A constructor returns like a body that was called, and its object is ready only after that.
 abbrev pub ConstructsSafely : Activation → StmtTree → (Point → Type 0) → Point → Option ℕ → Option BodyTree → Value → List Value → List Object → Type 0
 ConstructsSafely a u Q p x None this vs s = Q (with_store s p)
 ConstructsSafely a u Q p x (Some b) this vs s =

@@ -77,8 +77,8 @@ pub record IsReached (a : Activation) (p q : Point) : Type 0 where
   pub later : IsLater a.program.classes (entry_size a) p.store q.store
   pub stays : (x : ℕ) → IsNonNullLocal a x → IsNotNull (local_value (scene a p) x) → IsNotNull (local_value (scene a q) x)
 
--- It is the point behind the statement, which has assigned no null where none is wanted.
-pub record IsBehind (a : Activation) (s : StmtTree) (p q : Point) : Type 0 where
+-- It is the point after the statement, which has assigned no null where none is wanted.
+pub record IsAfter (a : Activation) (s : StmtTree) (p q : Point) : Type 0 where
   pub reached : IsReached a p q
   pub assigned : (x : ℕ) → is_target s x ≡ true → IsNonNullLocal a x → IsNotNull (local_value (scene a q) x)
 

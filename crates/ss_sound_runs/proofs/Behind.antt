@@ -1,4 +1,4 @@
--- Points behind the statements of a good frame.
+-- Points after the statements of a good frame.
 use Rattle.std.proofs.Common.{◌≡◌, ℕ, ◌<◌, ◌≤◌, List, ◌∷◌, ◌++◌, length, true, false, ◌==◌, Option, Some, None, Ok, refl, sym, ◌∙◌, ap, subst, arith, length-append}
 use Rattle.std.specs.Prelude.{slice_get, if◌then◌else◌, nat_le, nat_lt, option_map, option_to_list}
 use Rattle.std.proofs.lemmas.Bool.{false≢true, and_parts, or_left, or_right, ltb-true, eq-eqb, eqb-true}
@@ -37,7 +37,7 @@ use Rattle.ss_machine_good.proofs.CallsOfRuns as calls
 use Rattle.ss_machine_good.proofs.Constructions.{low_size}
 use Rattle.ss_logic.specs.Values.{Table}
 use Rattle.ss_vcgen_heaps.specs.Contracts.{seen, called}
-use Rattle.ss_sound_outcomes.specs.Points.{Activation, Point, IsReached, IsBehind}
+use Rattle.ss_sound_outcomes.specs.Points.{Activation, Point, IsReached, IsAfter}
 use Rattle.ss_sound_outcomes.specs.Points as points
 use Rattle.ss_sound_outcomes.specs.Outcomes.{with_local, with_store}
 use Rattle.ss_sound_runs.specs.Frames.{activation_of, point_of}
@@ -64,13 +64,13 @@ variable_within b y h =
     omega (arith, low, all, first, count)
 
 module _ (c : CoreTree) (f : Frame) (s : List Object) (st : StmtTree) (ds : List Due) (simple : is_simple st ≡ true) (at : f.left ≡ Statement st ∷ ds) (is : IsGoodFrame c f s) (table : Table) where
-  pub put_behind : (x : Option ℕ) (v : Value) (z : List Object) → IsLater c.classes (entry_size f) s z → ((y : ℕ) → is_target st y ≡ is_kept_in x y) →
-      ((y : ℕ) → x ≡ Some y → is_non_null_type (slice_get (local_types f.body) y) ≡ true → IsNotNull v) → IsBehind (activation_of c f table) st (point_of f s) (record { locals = put x v f.locals; store = z })
-  put_behind None v z later targets not_null = record {
+  pub put_after : (x : Option ℕ) (v : Value) (z : List Object) → IsLater c.classes (entry_size f) s z → ((y : ℕ) → is_target st y ≡ is_kept_in x y) →
+      ((y : ℕ) → x ≡ Some y → is_non_null_type (slice_get (local_types f.body) y) ≡ true → IsNotNull v) → IsAfter (activation_of c f table) st (point_of f s) (record { locals = put x v f.locals; store = z })
+  put_after None v z later targets not_null = record {
     reached = record { later = later; stays = λ y nn h. h };
     assigned = λ y t nn. absurd (false≢true (sym (targets y) ∙ t));
   }
-  put_behind (Some w) v z later targets not_null =
+  put_after (Some w) v z later targets not_null =
       let b = f.body in
       let count = is.sound.locals.count in
       let inside = variable_within b w (target_variable c f s st ds simple at is w (targets w ∙ eq-eqb w w refl)) in
@@ -84,56 +84,56 @@ module _ (c : CoreTree) (f : Frame) (s : List Object) (st : StmtTree) (ds : List
       }
 
   -- where it assigns nothing
-  pub quiet_behind : (z : List Object) → IsLater c.classes (entry_size f) s z → ((y : ℕ) → is_target st y ≡ false) → IsBehind (activation_of c f table) st (point_of f s) (record { locals = f.locals; store = z })
-  quiet_behind z later none = put_behind None value.Null z later none (λ y e nn. absurd (let no_one : ⊥ = cc in no_one))
+  pub quiet_after : (z : List Object) → IsLater c.classes (entry_size f) s z → ((y : ℕ) → is_target st y ≡ false) → IsAfter (activation_of c f table) st (point_of f s) (record { locals = f.locals; store = z })
+  quiet_after z later none = put_after None value.Null z later none (λ y e nn. absurd (let no_one : ⊥ = cc in no_one))
 
 -- a reference isn't null
 object_not_null : (o : ℕ) → IsNotNull (value.Obj o)
 object_not_null o null = cc
 
 module _ (c : CoreTree) (formed : IsFormed c) (f : Frame) (s : List Object) (ds : List Due) (is : IsGoodFrame c f s) (table : Table) where
-  pub assign_behind : (p : Place) (x : ℕ) (e : ExprTree) (v : Value) → f.left ≡ Statement (AssignStmt p x e) ∷ ds → value_of e (scene c f s) ≡ Ok v →
-      IsBehind (activation_of c f table) (AssignStmt p x e) (point_of f s) (with_local (Some x) v (point_of f s))
-  assign_behind p x e v at ev =
+  pub assign_after : (p : Place) (x : ℕ) (e : ExprTree) (v : Value) → f.left ≡ Statement (AssignStmt p x e) ∷ ds → value_of e (scene c f s) ≡ Ok v →
+      IsAfter (activation_of c f table) (AssignStmt p x e) (point_of f s) (with_local (Some x) v (point_of f s))
+  assign_after p x e v at ev =
       let b = f.body in
       let st = AssignStmt p x e in
       let fits = declared_some c.classes (code_type c.classes b e) (slice_get (local_types b) x) (typed_here c f s st ds refl at is) in
       let reads_ = (and_parts (reads_assigned b (before_assigned c f s st ds refl at is).known e) true (reads_evaluated c f s st ds refl at is)).0 in
       let stands : may_stand c b (before_known c f s st ds refl at is).known e fits.0 ≡ true = subst (λ o. may_stand_at c b (before_known c f s st ds refl at is).known e o ≡ true) fits.1 (before_known c f s st ds refl at is).checked in
-      put_behind c f s st ds refl at is table (Some x) v s (later_self c.classes (entry_size f) s) (λ y. refl)
+      put_after c f s st ds refl at is table (Some x) v s (later_self c.classes (entry_size f) s) (λ y. refl)
       (λ y eq nn.
       let same : x ≡ y = cc in
       let nn_x : is_non_null_type (slice_get (local_types b) x) ≡ true = subst (λ n. is_non_null_type (slice_get (local_types b) n) ≡ true) (sym same) nn in
       stands_not_null c f s st ds refl at is e fits.0 v reads_ fits.2 stands ev (sym (ap is_non_null_type fits.1) ∙ nn_x))
 
-  pub write_behind : (p : Place) (o : ExprTree) (g : ℕ) (m : Mark) (t : ℕ) (e : ExprTree) (v w : Value) (z : List Object) → f.left ≡ Statement (WriteStmt p o g m t e) ∷ ds → value_of e (scene c f s) ≡ Ok w → write_of c.classes s v g w ≡ Ok z →
-      IsBehind (activation_of c f table) (WriteStmt p o g m t e) (point_of f s) (with_store z (point_of f s))
-  write_behind p o g m t e v w z at ew h =
-      quiet_behind c f s (WriteStmt p o g m t e) ds refl at is table z (later_write c.classes (entry_size f) s v g w z (written_not_null c formed f s ds is p o g m t e w at ew) h) (λ y. refl)
+  pub write_after : (p : Place) (o : ExprTree) (g : ℕ) (m : Mark) (t : ℕ) (e : ExprTree) (v w : Value) (z : List Object) → f.left ≡ Statement (WriteStmt p o g m t e) ∷ ds → value_of e (scene c f s) ≡ Ok w → write_of c.classes s v g w ≡ Ok z →
+      IsAfter (activation_of c f table) (WriteStmt p o g m t e) (point_of f s) (with_store z (point_of f s))
+  write_after p o g m t e v w z at ew h =
+      quiet_after c f s (WriteStmt p o g m t e) ds refl at is table z (later_write c.classes (entry_size f) s v g w z (written_not_null c formed f s ds is p o g m t e w at ew) h) (λ y. refl)
 
-  pub write_element_behind : (p : Place) (a i e : ExprTree) (v w n : Value) (z : List Object) → f.left ≡ Statement (WriteElementStmt p a i e) ∷ ds → write_element_of s v (as_int n) w ≡ Ok z →
-      IsBehind (activation_of c f table) (WriteElementStmt p a i e) (point_of f s) (with_store z (point_of f s))
-  write_element_behind p a i e v w n z at h = quiet_behind c f s (WriteElementStmt p a i e) ds refl at is table z (later_write_element c.classes (entry_size f) s v (as_int n) w z h) (λ y. refl)
+  pub write_element_after : (p : Place) (a i e : ExprTree) (v w n : Value) (z : List Object) → f.left ≡ Statement (WriteElementStmt p a i e) ∷ ds → write_element_of s v (as_int n) w ≡ Ok z →
+      IsAfter (activation_of c f table) (WriteElementStmt p a i e) (point_of f s) (with_store z (point_of f s))
+  write_element_after p a i e v w n z at h = quiet_after c f s (WriteElementStmt p a i e) ds refl at is table z (later_write_element c.classes (entry_size f) s v (as_int n) w z h) (λ y. refl)
 
-  pub unpack_behind : (p : Place) (x t : ℕ) (z : List Object) → f.left ≡ Statement (UnpackStmt p x t) ∷ ds → unpack_of c.classes s (local_value (scene c f s) x) t ≡ Ok z →
-      IsBehind (activation_of c f table) (UnpackStmt p x t) (point_of f s) (with_store z (point_of f s))
-  unpack_behind p x t z at h = quiet_behind c f s (UnpackStmt p x t) ds refl at is table z (later_unpack c.classes (entry_size f) s (local_value (scene c f s) x) t z h) (λ y. refl)
+  pub unpack_after : (p : Place) (x t : ℕ) (z : List Object) → f.left ≡ Statement (UnpackStmt p x t) ∷ ds → unpack_of c.classes s (local_value (scene c f s) x) t ≡ Ok z →
+      IsAfter (activation_of c f table) (UnpackStmt p x t) (point_of f s) (with_store z (point_of f s))
+  unpack_after p x t z at h = quiet_after c f s (UnpackStmt p x t) ds refl at is table z (later_unpack c.classes (entry_size f) s (local_value (scene c f s) x) t z h) (λ y. refl)
 
-  pub pack_behind : (p : Place) (x t : ℕ) (z : List Object) → f.left ≡ Statement (PackStmt p x t) ∷ ds → pack_of c.classes (invariants_hold c.classes) s (local_value (scene c f s) x) t ≡ Ok z →
-      IsBehind (activation_of c f table) (PackStmt p x t) (point_of f s) (with_store z (point_of f s))
-  pack_behind p x t z at h = quiet_behind c f s (PackStmt p x t) ds refl at is table z (later_pack c.classes (entry_size f) (invariants_hold c.classes) s (local_value (scene c f s) x) t z h) (λ y. refl)
+  pub pack_after : (p : Place) (x t : ℕ) (z : List Object) → f.left ≡ Statement (PackStmt p x t) ∷ ds → pack_of c.classes (invariants_hold c.classes) s (local_value (scene c f s) x) t ≡ Ok z →
+      IsAfter (activation_of c f table) (PackStmt p x t) (point_of f s) (with_store z (point_of f s))
+  pack_after p x t z at h = quiet_after c f s (PackStmt p x t) ds refl at is table z (later_pack c.classes (entry_size f) (invariants_hold c.classes) s (local_value (scene c f s) x) t z h) (λ y. refl)
 
-  pub array_behind : (p : Place) (x : Option ℕ) (t : ℕ) (e : ExprTree) (n : Value) (z : List Object) → f.left ≡ Statement (NewArrayStmt p x t e) ∷ ds → new_array_of s t (as_int n) ≡ Ok z →
-      IsBehind (activation_of c f table) (NewArrayStmt p x t e) (point_of f s) (with_local x (value.Obj (length s)) (with_store z (point_of f s)))
-  array_behind p x t e n z at h =
-      put_behind c f s (NewArrayStmt p x t e) ds refl at is table x (value.Obj (length s)) z (later_new_array c.classes (entry_size f) s t (as_int n) z h) (λ y. refl) (λ y eq nn. object_not_null (length s))
+  pub array_after : (p : Place) (x : Option ℕ) (t : ℕ) (e : ExprTree) (n : Value) (z : List Object) → f.left ≡ Statement (NewArrayStmt p x t e) ∷ ds → new_array_of s t (as_int n) ≡ Ok z →
+      IsAfter (activation_of c f table) (NewArrayStmt p x t e) (point_of f s) (with_local x (value.Obj (length s)) (with_store z (point_of f s)))
+  array_after p x t e n z at h =
+      put_after c f s (NewArrayStmt p x t e) ds refl at is table x (value.Obj (length s)) z (later_new_array c.classes (entry_size f) s t (as_int n) z h) (λ y. refl) (λ y eq nn. object_not_null (length s))
 
-  pub ready_behind : (p : Place) → f.left ≡ Statement (ReadyStmt p) ∷ ds → IsBehind (activation_of c f table) (ReadyStmt p) (point_of f s) (with_store (steps.with_ready s (this_of f.locals)) (point_of f s))
-  ready_behind p at =
+  pub ready_after : (p : Place) → f.left ≡ Statement (ReadyStmt p) ∷ ds → IsAfter (activation_of c f table) (ReadyStmt p) (point_of f s) (with_store (steps.with_ready s (this_of f.locals)) (point_of f s))
+  ready_after p at =
       let ctor = (all_given c f s (ReadyStmt p) ds refl at is p refl).0 in
       let k = is.constructs ctor in
       let few : entry_size f ≤ k.position = let zero_ : entry_size f ≡ 0 = ap (λ d. if d then 0 else length f.entry) ctor in omega (arith, zero_) in
-      quiet_behind c f s (ReadyStmt p) ds refl at is table (steps.with_ready s (this_of f.locals))
+      quiet_after c f s (ReadyStmt p) ds refl at is table (steps.with_ready s (this_of f.locals))
       (subst (λ w. IsLater c.classes (entry_size f) s (steps.with_ready s w)) (sym k.this) (later_ready c.classes (entry_size f) s k.position few)) (λ y. refl)
 
 -- ---- calls
@@ -151,20 +151,20 @@ called_result c body (Static n) k b h e = plain_result (callee_of c body (Static
 called_result c body (Base n) k b h e = plain_result (callee_of c body (Base n)) k b h e
 called_result c body (BaseConstructor n) k b h e = plain_result (callee_of c body (BaseConstructor n)) k b h e
 
-pub call_behind : (c : CoreTree) (f : Frame) (s : List Object) (ds : List Due) → IsGoodFrame c f s → (p : Place) (x : Option ℕ) (callee : CalleeTree) (es : List ExprTree) → f.left ≡ Statement (CallStmt p x callee es) ∷ ds →
+pub call_after : (c : CoreTree) (f : Frame) (s : List Object) (ds : List Due) → IsGoodFrame c f s → (p : Place) (x : Option ℕ) (callee : CalleeTree) (es : List ExprTree) → f.left ≡ Statement (CallStmt p x callee es) ∷ ds →
     (b : BodyTree) → called c f.body callee ≡ Some b → (this v : Value) (z : List Object) → IsLater c.classes (entry_size f) s z → IsAnswer c b (ToCall x) this z v →
-    (table : Table) → IsBehind (activation_of c f table) (CallStmt p x callee es) (point_of f s) (with_local x v (with_store z (point_of f s)))
-call_behind c f s ds is p x callee es at b named this v z later answer table =
+    (table : Table) → IsAfter (activation_of c f table) (CallStmt p x callee es) (point_of f s) (with_local x v (with_store z (point_of f s)))
+call_after c f s ds is p x callee es at b named this v z later answer table =
     let k = calls.called c f s p x callee es ds at is in
-    put_behind c f s (CallStmt p x callee es) ds refl at is table x v z later (λ y. refl)
+    put_after c f s (CallStmt p x callee es) ds refl at is table x v z later (λ y. refl)
     (λ y e nn. answer.non_null (ap is_non_null_type (called_result c f.body callee k.body b k.is_callee named) ∙ k.keeps y e nn))
 
-pub new_behind : (c : CoreTree) (f : Frame) (s : List Object) (ds : List Due) → IsGoodFrame c f s → (p : Place) (x : Option ℕ) (t : ℕ) (es : List ExprTree) → f.left ≡ Statement (NewStmt p x t es) ∷ ds →
+pub new_after : (c : CoreTree) (f : Frame) (s : List Object) (ds : List Due) → IsGoodFrame c f s → (p : Place) (x : Option ℕ) (t : ℕ) (es : List ExprTree) → f.left ≡ Statement (NewStmt p x t es) ∷ ds →
     (z : List Object) → IsLater c.classes (entry_size f) (new_object_of c.classes s t) z →
-    (table : Table) → IsBehind (activation_of c f table) (NewStmt p x t es) (point_of f s) (with_local x (value.Obj (length s)) (with_store (steps.with_ready z (value.Obj (length s))) (point_of f s)))
-new_behind c f s ds is p x t es at z later table =
+    (table : Table) → IsAfter (activation_of c f table) (NewStmt p x t es) (point_of f s) (with_local x (value.Obj (length s)) (with_store (steps.with_ready z (value.Obj (length s))) (point_of f s)))
+new_after c f s ds is p x t es at z later table =
     let n = entry_size f in
     let s1 = new_object_of c.classes s t in
     let few : n ≤ length s = low_size f (length s) (older_size f.entry s is.sound.older) in
     let whole = later_trans c.classes n s z (steps.with_ready z (value.Obj (length s))) (later_trans c.classes n s s1 z (later_new_object c.classes n s t) later) (later_ready c.classes n z (length s) few) in
-    put_behind c f s (NewStmt p x t es) ds refl at is table x (value.Obj (length s)) (steps.with_ready z (value.Obj (length s))) whole (λ y. refl) (λ y eq nn. object_not_null (length s))
+    put_after c f s (NewStmt p x t es) ds refl at is table x (value.Obj (length s)) (steps.with_ready z (value.Obj (length s))) whole (λ y. refl) (λ y eq nn. object_not_null (length s))

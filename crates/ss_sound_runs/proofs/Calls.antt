@@ -38,13 +38,13 @@ use Rattle.ss_sound_runs.specs.Passed.{IsPassed}
 use Rattle.ss_sound_runs.proofs.Grown.{grown_self, grown_trans, grown_change}
 use Rattle.ss_sound_runs.proofs.Tables.{fits_before, good_table}
 use Rattle.ss_sound_runs.proofs.Points.{sound_point}
-use Rattle.ss_sound_runs.proofs.Behind.{call_behind, new_behind}
+use Rattle.ss_sound_runs.proofs.Behind.{call_after, new_after}
 use Rattle.ss_sound_runs.proofs.StepsPassed.{static_passed, dispatched_passed, base_passed, constructor_passed, new_passed}
 use Rattle.ss_sound_runs.specs.Served.{Serves, IsCalledOn}
 use Rattle.ss_sound_runs.proofs.Passed.{passed_at_entry}
 use Rattle.ss_sound_runs.proofs.Served.{entered, returned_as_seen}
 use Rattle.ss_sound_runs.proofs.Serving.{serves}
-use Rattle.ss_sound_runs.specs.Stacks.{LeftSafely, Stands, behind_return, AllWaitSafely, StepsSafely}
+use Rattle.ss_sound_runs.specs.Stacks.{LeftSafely, Stands, after_return, AllWaitSafely, StepsSafely}
 use Rattle.ss_sound_runs.proofs.Left.{left_all}
 use Rattle.ss_sound_runs.proofs.Steps.{fitting_table, targets_here, all_wait_on, value_steps, values_steps, holds_steps}
 
@@ -54,12 +54,12 @@ module _ (c : CoreTree) (formed : IsFormed c) (runs : AllRunSafely c) (f : Frame
   fitting = fitting_table c f fs s good
 
   -- The frame goes on safely from each return of the body b that its contract allows.
-  abbrev GoesOnBehind : BodyTree → Target → List Object → List Value → List Due → Type 0
-  GoesOnBehind b into s1 vs ds = (t : Table) (z : List Object) (v : Value) → Fits c.classes t z → IsReturn (activation_of c f t) b (ToCall (kept_in into)) vs s1 z v →
-      IsSound (activation_of c f t) (behind_return into v (this_of vs) (point_of f z)) → LeftSafely (activation_of c f t) ds (behind_return into v (this_of vs) (point_of f z))
+  abbrev GoesOnAfter : BodyTree → Target → List Object → List Value → List Due → Type 0
+  GoesOnAfter b into s1 vs ds = (t : Table) (z : List Object) (v : Value) → Fits c.classes t z → IsReturn (activation_of c f t) b (ToCall (kept_in into)) vs s1 z v →
+      IsSound (activation_of c f t) (after_return into v (this_of vs) (point_of f z)) → LeftSafely (activation_of c f t) ds (after_return into v (this_of vs) (point_of f z))
 
   enter_steps : (o : Option BodyTree) (b : BodyTree) (n : ℕ) → o ≡ Some b → body_at c n ≡ Some b → (p : Place) (into : Target) (vs : List Value) (s1 : List Object) (ds : List Due) → is_kept_among (is_variable f.body) (kept_in into) ≡ true →
-      ArePassed c b s1 vs → steps.all_hold b.entry (setting c.classes s1 s1 (locals_at_entry b vs)) ≡ true → GoesOnBehind b into s1 vs ds → StepsSafely c fs s (steps.enter c o p into vs (record f { left = ds }) fs s1)
+      ArePassed c b s1 vs → steps.all_hold b.entry (setting c.classes s1 s1 (locals_at_entry b vs)) ≡ true → GoesOnAfter b into s1 vs ds → StepsSafely c fs s (steps.enter c o p into vs (record f { left = ds }) fs s1)
   enter_steps o b n is number p into vs s1 ds target passed enters goes_on =
       let g = frame_at_entry b (locals_at_entry b vs) s1 into in
       subst (λ q. StepsSafely c fs s (steps.enter c q p into vs (record f { left = ds }) fs s1)) (sym is)
@@ -92,7 +92,7 @@ module _ (c : CoreTree) (formed : IsFormed c) (runs : AllRunSafely c) (f : Frame
         (λ t z v fits back sound.
         let r = returns t z v back in
         (h' t (fits_before c.classes t s z r.grown fits) passed_k).1 z v r sound
-        (call_behind c f s ds good.0 p x callee es at k named (this_of vs) v z r.later r.answer t))
+        (call_after c f s ds good.0 p x callee es at k named (this_of vs) v z r.later r.answer t))
 
     -- a body that is called by its own contract
     plain_steps : (n : ℕ) (vs : List Value) → IsPassed c f s callee (body_at c n) vs → Called vs (called c f.body callee) → StepsSafely c fs s (steps.enter c (body_at c n) p (ToCall x) vs (record f { left = ds }) fs s)
@@ -153,7 +153,7 @@ module _ (c : CoreTree) (formed : IsFormed c) (runs : AllRunSafely c) (f : Frame
       (λ (o : Option BodyTree). ConstructsSafely (activation_of c f y) st (λ q. LeftSafely (activation_of c f y) ds q) (point_of f s) x o this vs s1) k.1
       (h y (fits_before c.classes y s s1 grown fits) s1_good fits) k.3 in
       enter_steps (constructor_of c t) b k.2.0 k.1 k.2.1 p (ToNew x) (this ∷ vs) s1 ds (targets_here c f s good.0 st ds at) k.3 (h' new_table.0 new_table.1).0
-      (λ y z v fits r sound. (h' y (fits_before c.classes y s1 z r.grown fits)).1 z v fits r sound (new_behind c f s ds good.0 p x t es at z r.later y))
+      (λ y z v fits r sound. (h' y (fits_before c.classes y s1 z r.grown fits)).1 z v fits r sound (new_after c f s ds good.0 p x t es at z r.later y))
 
   pub new_steps : (p : Place) (x : Option ℕ) (t : ℕ) (es : List ExprTree) (ds : List Due) → f.left ≡ Statement (NewStmt p x t es) ∷ ds →
       ((y : Table) → Fits c.classes y s → Safely (activation_of c f y) (NewStmt p x t es) (point_of f s) (λ q. LeftSafely (activation_of c f y) ds q)) →

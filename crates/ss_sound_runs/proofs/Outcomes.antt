@@ -1,4 +1,4 @@
--- What goes on safely from a point, where more is known of the points behind: they are reached, and locals that the code doesn't assign
+-- What goes on safely from a point, where more is known of the points after: they are reached, and locals that the code doesn't assign
 -- keep their values.
 use Rattle.std.proofs.Common.{◌≡◌, ◌≢◌, ℕ, zero, suc, List, [], ◌∷◌, length, Bool, true, false, not, eqb, Option, Some, None, refl, sym, ◌∙◌, ap}
 use Rattle.std.specs.Prelude.{slice_get, set, Result, Ok, Err}
@@ -103,7 +103,7 @@ module _ (a : Activation) where
 
   -- ---- statements
 
-  -- what holds behind the statement, and that the point behind it is reached
+  -- what holds after the statement, and that the point after it is reached
   abbrev Follows : (ℕ → Bool) → Point → (Point → Type 0) → (Point → Type 0) → Type 0
   Follows kept p P Q = (q : Point) → P q → HasGone a kept p q → Q q
 
@@ -153,7 +153,7 @@ module _ (a : Activation) where
   -- ---- code
 
   mutual
-    -- more may be asked behind a statement
+    -- more may be asked after a statement
     pub stronger : (s : StmtTree) (p : Point) (P Q : Point → Type 0) → ((q : Point) → P q → HasGone a (keeps_local s) p q → Q q) → Safely a s p P → Safely a s p Q
     stronger (AssignStmt at x e) p P Q w h =
         has_weaker (value_of e (scene a p)) _ _ (λ v g. goes_stronger (AssignStmt at x e) (Some x) v p.store p P Q (λ y k. k) w g) h
@@ -191,7 +191,7 @@ module _ (a : Activation) where
     stronger (PrintTextStmt at text newline) p P Q w h = w p h (gone_self _ p)
     stronger (ReturnStmt at e) p P Q w h = h
 
-    -- and behind code
+    -- and after code
     pub all_stronger : (code : CodeTree) (p : Point) (P Q : Point → Type 0) → ((q : Point) → P q → HasGone a (all_keep_local code) p q → Q q) → AllSafely a code p P → AllSafely a code p Q
     all_stronger NoCode p P Q w h = w p h (gone_self _ p)
     all_stronger (Then s code) p P Q w h =

@@ -20,7 +20,7 @@ use Rattle.ss_store_rules.specs.Tables.{normal_number, normal_condition}
 abbrev pub local_in : List Value → ℕ → Value
 local_in locals x = unwrap_or (slice_get locals x) value.Null
 
--- Each of these locals has the value that its number in the normal form has, however many bound names stand behind.
+-- Each of these locals has the value that its number in the normal form has, however many bound names stand after.
 abbrev pub ReadsSame : BodyTree → (ℕ → Bool) → List Value → List Value → Type 0
 ReadsSame b among L N = (bound : List Value) (x : ℕ) → among x ≡ true → local_in (L ++ bound) x ≡ local_in (N ++ bound) (normal_number b x)
 

@@ -1,4 +1,4 @@
--- A step within a frame that goes on safely doesn't fail, and the frame goes on safely behind it.
+-- A step within a frame that goes on safely doesn't fail, and the frame goes on safely after it.
 use Rattle.std.proofs.Common.{◌≡◌, ℕ, List, [], ◌∷◌, ◌++◌, map, length, Bool, true, false, Option, Some, None, Ok, Err, refl, ◌∙◌, ap, subst}
 use Rattle.std.specs.Prelude.{if◌then◌else◌, Result}
 use Rattle.std.proofs.lemmas.Bool.{false≢true, and_parts}
@@ -26,13 +26,13 @@ use Rattle.ss_machine_good.proofs.Later.{later_trans}
 use Rattle.ss_machine_good.specs.LaterFrames.{IsGoodFrame, entry_size}
 use Rattle.ss_machine_good.specs.Stacks.{IsGoodStack}
 use Rattle.ss_logic.specs.Values.{Table}
-use Rattle.ss_sound_outcomes.specs.Points.{HasGrown, Fits, IsSound, IsBehind}
+use Rattle.ss_sound_outcomes.specs.Points.{HasGrown, Fits, IsSound, IsAfter}
 use Rattle.ss_sound_outcomes.specs.Outcomes.{Has, GoesOn, with_local, with_store, Changes, HoldsAtHead, head_of, Safely, AllSafely}
 use Rattle.ss_sound_runs.specs.Frames.{activation_of, point_of, AreLater}
 use Rattle.ss_sound_runs.proofs.Grown.{grown_trans}
 use Rattle.ss_sound_runs.proofs.Tables.{fits_before, good_table}
 use Rattle.ss_sound_runs.proofs.Points.{sound_point}
-use Rattle.ss_sound_runs.proofs.Statements.{statement_behind}
+use Rattle.ss_sound_runs.proofs.Statements.{statement_after}
 use Rattle.ss_sound_runs.specs.Served.{HasArguments}
 use Rattle.ss_sound_runs.proofs.Passed.{passed_on}
 use Rattle.ss_sound_runs.specs.Stacks.{TestedSafely, LeftSafely, Stands, AllWaitSafely, StepsSafely}
@@ -97,14 +97,14 @@ module _ (c : CoreTree) (formed : IsFormed c) (f : Frame) (fs : List Frame) (s :
         all_wait_on c s z grown f.body f.into f.entry arguments fs later waits,
       )
 
-  behind_then : (st : StmtTree) (ds : List Due) → is_simple st ≡ true → f.left ≡ Statement st ∷ ds → (g : Frame) (z : List Object) (piece : List ℕ) → steps.act c st (record f { left = ds }) fs s ≡ Goes (g ∷ fs) z piece →
-      (t : Table) → IsBehind (activation_of c f t) st (point_of f s) (point_of g z)
-  behind_then st ds simple at g z piece e t = statement_behind c formed f s ds good.0 st simple at fs g z piece (ap (λ l. steps.act_first c l f fs s) at ∙ e) t
+  after_then : (st : StmtTree) (ds : List Due) → is_simple st ≡ true → f.left ≡ Statement st ∷ ds → (g : Frame) (z : List Object) (piece : List ℕ) → steps.act c st (record f { left = ds }) fs s ≡ Goes (g ∷ fs) z piece →
+      (t : Table) → IsAfter (activation_of c f t) st (point_of f s) (point_of g z)
+  after_then st ds simple at g z piece e t = statement_after c formed f s ds good.0 st simple at fs g z piece (ap (λ l. steps.act_first c l f fs s) at ∙ e) t
 
   change_steps : (st : StmtTree) (ds : List Due) → is_simple st ≡ true → f.left ≡ Statement st ∷ ds → (r : Result (List Object) Kind) (p : Place) →
       ((t : Table) → Fits c.classes t s → Changes (activation_of c f t) st (λ q. LeftSafely (activation_of c f t) ds q) (point_of f s) r) →
       steps.act c st (record f { left = ds }) fs s ≡ steps.changes r p (record f { left = ds }) fs → StepsSafely c fs s (steps.changes r p (record f { left = ds }) fs)
-  change_steps st ds simple at (Ok z) p h e = moved ds f.locals z [] stands.has (λ t fits sound. h t fits sound (behind_then st ds simple at (record f { left = ds }) z [] e t))
+  change_steps st ds simple at (Ok z) p h e = moved ds f.locals z [] stands.has (λ t fits sound. h t fits sound (after_then st ds simple at (record f { left = ds }) z [] e t))
   change_steps st ds simple at (Err k) p h e = absurd (h some_table.0 some_table.1)
 
   array_steps : (st : StmtTree) (ds : List Due) → is_simple st ≡ true → f.left ≡ Statement st ∷ ds → (x : Option ℕ) → is_kept_among (is_variable f.body) x ≡ true → (r : Result (List Object) Kind) (p : Place) →
@@ -112,7 +112,7 @@ module _ (c : CoreTree) (formed : IsFormed c) (f : Frame) (fs : List Frame) (s :
       steps.act c st (record f { left = ds }) fs s ≡ steps.made_array r (length s) p x (record f { left = ds }) fs → StepsSafely c fs s (steps.made_array r (length s) p x (record f { left = ds }) fs)
   array_steps st ds simple at x target (Ok z) p h e =
       moved ds (put x (value.Obj (length s)) f.locals) z [] (passed_on f.body arguments f.locals x (value.Obj (length s)) target stands.has)
-      (λ t fits sound. h t fits sound (behind_then st ds simple at (steps.with_local x (value.Obj (length s)) (record f { left = ds })) z [] e t))
+      (λ t fits sound. h t fits sound (after_then st ds simple at (steps.with_local x (value.Obj (length s)) (record f { left = ds })) z [] e t))
   array_steps st ds simple at x target (Err k) p h e = absurd (h some_table.0 some_table.1)
 
   branch_steps : (ds : List Due) (one other : CodeTree) (b : Bool) →
@@ -144,7 +144,7 @@ module _ (c : CoreTree) (formed : IsFormed c) (f : Frame) (fs : List Frame) (s :
   stays_steps (AssignStmt p x e) ds stays at h =
       value_steps c fs s some_table.0 some_table.1 (value_of e (scene c f s)) _ _ h (λ v ev eq next.
       moved ds (put (Some x) v f.locals) s [] (passed_on f.body arguments f.locals (Some x) v (targets_here c f s good.0 (AssignStmt p x e) ds at) stands.has)
-      (λ t fits sound. next t fits sound (behind_then (AssignStmt p x e) ds refl at (steps.with_local (Some x) v (record f { left = ds })) s [] eq t)))
+      (λ t fits sound. next t fits sound (after_then (AssignStmt p x e) ds refl at (steps.with_local (Some x) v (record f { left = ds })) s [] eq t)))
   stays_steps (WriteStmt p o g m k e) ds stays at h =
       value_steps c fs s some_table.0 some_table.1 (value_of o (scene c f s)) _ _ h (λ v ev eq1 h1.
       value_steps c fs s some_table.0 some_table.1 (value_of e (scene c f s)) _ _ h1 (λ w ew eq2 h2.
@@ -161,7 +161,7 @@ module _ (c : CoreTree) (formed : IsFormed c) (f : Frame) (fs : List Frame) (s :
   stays_steps (CallStmt p x callee es) ds stays at h = absurd stays
   stays_steps (ReadyStmt p) ds stays at h =
       moved ds f.locals (steps.with_ready s (this_of f.locals)) [] stands.has
-      (λ t fits sound. h t fits sound (behind_then (ReadyStmt p) ds refl at (record f { left = ds }) (steps.with_ready s (this_of f.locals)) [] refl t))
+      (λ t fits sound. h t fits sound (after_then (ReadyStmt p) ds refl at (record f { left = ds }) (steps.with_ready s (this_of f.locals)) [] refl t))
   stays_steps (IfStmt p e one other) ds stays at h =
       value_steps c fs s some_table.0 some_table.1 (value_of e (scene c f s)) _ _ h (λ v ev eq h1. branch_steps ds one other (as_bool v) h1)
   stays_steps (LoopStmt p asked prelude e body exposes) ds stays at h =

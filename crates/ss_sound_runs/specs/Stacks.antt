@@ -21,7 +21,7 @@ use Rattle.ss_sound_runs.specs.Served.{HasArguments}
 -- ---- what is left of a body
 
 module _ (a : Activation) where
-  -- from the test of a loop: behind it comes its body and then the loop again, or what is left behind the loop
+  -- from the test of a loop: after it comes its body and then the loop again, or what is left after the loop
   abbrev pub TestedSafely : ExprTree → CodeTree → StmtTree → Point → (Point → Type 0) → Type 0
   TestedSafely e body s p Q = Has (value_of e (scene a p)) (λ v. (as_bool v ≡ true → AllSafely a body p (λ q. Safely a s q Q)) × (as_bool v ≡ false → Q p))
 
@@ -42,10 +42,10 @@ pub record Stands (f : Frame) (arguments : List Value) (s : List Object) : Type 
 abbrev pub GoesSafely : CoreTree → Frame → List Object → Type 0
 GoesSafely c f s = (table : Table) → Fits c.classes table s → LeftSafely (activation_of c f table) f.left (point_of f s)
 
--- behind a call, with its result; or behind a `new`, with the object, which is ready from then on
-abbrev pub behind_return : Target → Value → Value → Point → Point
-behind_return (ToCall x) v this p = with_local x v p
-behind_return (ToNew x) v this p = with_local x this (with_store (with_ready p.store this) p)
+-- after a call, with its result; or after a `new`, with the object, which is ready from then on
+abbrev pub after_return : Target → Value → Value → Point → Point
+after_return (ToCall x) v this p = with_local x v p
+after_return (ToNew x) v this p = with_local x this (with_store (with_ready p.store this) p)
 
 -- The frame waits for the body b, which was entered with these arguments in this store. From each return that the contract of b allows it
 -- goes on safely.
@@ -54,7 +54,7 @@ pub record WaitsSafely (c : CoreTree) (b : BodyTree) (into : Target) (entry : Li
   -- what gets the result is no argument
   pub target : is_kept_among (is_variable f.body) (kept_in into) ≡ true
   pub goes_on : (table : Table) (z : List Object) (v : Value) → Fits c.classes table z → IsReturn (activation_of c f table) b (ToCall (kept_in into)) arguments entry z v →
-      IsSound (activation_of c f table) (behind_return into v (this_of arguments) (point_of f z)) → LeftSafely (activation_of c f table) f.left (behind_return into v (this_of arguments) (point_of f z))
+      IsSound (activation_of c f table) (after_return into v (this_of arguments) (point_of f z)) → LeftSafely (activation_of c f table) f.left (after_return into v (this_of arguments) (point_of f z))
 
 -- each frame waits for the one above it
 abbrev pub AllWaitSafely : CoreTree → BodyTree → Target → List Object → List Value → List Object → List Frame → Type 0

@@ -13,9 +13,8 @@ pub use contracts_laws::{
 };
 pub use laws::safe_bodies_never_fail;
 pub use steps_laws::{
-    base_calls_pass, calls_lead_behind, changes_grow, constructor_calls_pass,
-    dispatched_calls_pass, frames_are_sound, good_stores_have_tables, grown_begins, grown_goes_on,
-    news_lead_behind, news_pass, reached_begins, reached_goes_on, returns_answer,
-    short_stores_have_tables, statements_lead_behind, static_calls_pass, steps_grow,
-    steps_lead_later, tables_fit_before,
+    base_calls_pass, calls_lead_after, changes_grow, constructor_calls_pass, dispatched_calls_pass,
+    frames_are_sound, good_stores_have_tables, grown_begins, grown_goes_on, news_lead_after,
+    news_pass, reached_begins, reached_goes_on, returns_answer, short_stores_have_tables,
+    statements_lead_after, static_calls_pass, steps_grow, steps_lead_later, tables_fit_before,
 };

@@ -22,7 +22,7 @@ ghost use Rattle.ss_machine_good.specs.LaterFrames.{IsGoodFrame, IsAnswer, entry
 ghost use Rattle.ss_machine_good.specs.Stacks.{IsGoodStack};
 ghost use Rattle.ss_logic.specs.Values.{Table};
 ghost use Rattle.ss_vcgen_heaps.specs.Contracts.{called};
-ghost use Rattle.ss_sound_outcomes.specs.Points.{Activation, Point, HasGrown, Fits, IsSound, IsReached, IsBehind, ArePassed};
+ghost use Rattle.ss_sound_outcomes.specs.Points.{Activation, Point, HasGrown, Fits, IsSound, IsReached, IsAfter, ArePassed};
 ghost use Rattle.ss_sound_outcomes.specs.Outcomes.{with_local, with_store};
 ghost use Rattle.ss_sound_runs.specs.Frames.{activation_of, point_of, AreLater};
 ghost use Rattle.ss_sound_runs.specs.Passed.{IsPassed, IsDispatched};
@@ -78,7 +78,7 @@ pub fn steps_lead_later()
     ensures { (c : CoreTree) → IsFormed c → (fs : List Frame) (s : List Object) → IsGoodStack c fs s → (gs : List Frame) (z : List Object) (piece : List ℕ) → next c fs s ≡ Goes gs z piece → AreLater c.classes s z fs }
 {}
 
-// ---- points behind statements
+// ---- points after statements
 
 /// A point is reached from itself.
 pub fn reached_begins()
@@ -90,24 +90,24 @@ pub fn reached_goes_on()
     ensures { (a : Activation) (p q r : Point) → IsReached a p q → IsReached a q r → IsReached a p r }
 {}
 
-/// A statement of a good frame that goes on in the frame leads to a point behind it.
-pub fn statements_lead_behind()
+/// A statement of a good frame that goes on in the frame leads to a point after it.
+pub fn statements_lead_after()
     ensures { (c : CoreTree) → IsFormed c → (f : Frame) (s : List Object) (ds : List Due) → IsGoodFrame c f s → (st : StmtTree) → is_simple st ≡ true → f.left ≡ Statement st ∷ ds →
-        (fs : List Frame) (g : Frame) (z : List Object) (piece : List ℕ) → next c (f ∷ fs) s ≡ Goes (g ∷ fs) z piece → (table : Table) → IsBehind (activation_of c f table) st (point_of f s) (point_of g z) }
+        (fs : List Frame) (g : Frame) (z : List Object) (piece : List ℕ) → next c (f ∷ fs) s ≡ Goes (g ∷ fs) z piece → (table : Table) → IsAfter (activation_of c f table) st (point_of f s) (point_of g z) }
 {}
 
 /// So does a call, with an answer of the body that its text names, in a later store.
-pub fn calls_lead_behind()
+pub fn calls_lead_after()
     ensures { (c : CoreTree) (f : Frame) (s : List Object) (ds : List Due) → IsGoodFrame c f s → (p : Place) (x : Option ℕ) (callee : CalleeTree) (es : List ExprTree) → f.left ≡ Statement (CallStmt p x callee es) ∷ ds →
         (b : BodyTree) → called c f.body callee ≡ Some b → (this v : Value) (z : List Object) → IsLater c.classes (entry_size f) s z → IsAnswer c b (ToCall x) this z v →
-        (table : Table) → IsBehind (activation_of c f table) (CallStmt p x callee es) (point_of f s) (with_local x v (with_store z (point_of f s))) }
+        (table : Table) → IsAfter (activation_of c f table) (CallStmt p x callee es) (point_of f s) (with_local x v (with_store z (point_of f s))) }
 {}
 
 /// And a `new`, whose object is made ready in a store that is later than the one with the new object.
-pub fn news_lead_behind()
+pub fn news_lead_after()
     ensures { (c : CoreTree) (f : Frame) (s : List Object) (ds : List Due) → IsGoodFrame c f s → (p : Place) (x : Option ℕ) (t : ℕ) (es : List ExprTree) → f.left ≡ Statement (NewStmt p x t es) ∷ ds →
         (z : List Object) → IsLater c.classes (entry_size f) (new_object_of c.classes s t) z →
-        (table : Table) → IsBehind (activation_of c f table) (NewStmt p x t es) (point_of f s) (with_local x (value.Obj (length s)) (with_store (with_ready z (value.Obj (length s))) (point_of f s))) }
+        (table : Table) → IsAfter (activation_of c f table) (NewStmt p x t es) (point_of f s) (with_local x (value.Obj (length s)) (with_store (with_ready z (value.Obj (length s))) (point_of f s))) }
 {}
 
 // ---- arguments and answers

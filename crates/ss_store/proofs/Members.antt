@@ -42,13 +42,13 @@ none_joined : (q : Quantifier) (a : Bool) → joined q (of_none q) a ≡ a
 none_joined quantifier.Forall a = refl
 none_joined quantifier.Exists a = refl
 
--- behind any outcome of the rest
-joined_behind : (q : Quantifier) (before : Bool) (v : Value) (rest : Outcome) → and_then (and_then rest (λ w. truth (joined q (as_bool v) (as_bool w)))) (λ w. truth (joined q before (as_bool w))) ≡ and_then rest (λ w. truth (joined q (joined q before (as_bool v)) (as_bool w)))
-joined_behind q before v (Ok w) = ap truth (joined_assoc q before (as_bool v) (as_bool w))
-joined_behind q before v (Err u) = refl
+-- after any outcome of the rest
+joined_after : (q : Quantifier) (before : Bool) (v : Value) (rest : Outcome) → and_then (and_then rest (λ w. truth (joined q (as_bool v) (as_bool w)))) (λ w. truth (joined q before (as_bool w))) ≡ and_then rest (λ w. truth (joined q (joined q before (as_bool v)) (as_bool w)))
+joined_after q before v (Ok w) = ap truth (joined_assoc q before (as_bool v) (as_bool w))
+joined_after q before v (Err u) = refl
 
 pub with_member : (q : Quantifier) (f : ℤ → Outcome) (n : ℕ) (i : ℤ) (before : Bool) (v : Value) → f i ≡ Ok v → continued q f (suc n) i before ≡ continued q f n (i +ℤ pos 1) (joined q before (as_bool v))
-with_member q f n i before v h = ap (λ (r : Outcome). and_then (and_then r (λ x. and_then (quantified q f n (i +ℤ pos 1)) (λ w. truth (joined q (as_bool x) (as_bool w))))) (λ w. truth (joined q before (as_bool w)))) h ∙ joined_behind q before v (quantified q f n (i +ℤ pos 1))
+with_member q f n i before v h = ap (λ (r : Outcome). and_then (and_then r (λ x. and_then (quantified q f n (i +ℤ pos 1)) (λ w. truth (joined q (as_bool x) (as_bool w))))) (λ w. truth (joined q before (as_bool w)))) h ∙ joined_after q before v (quantified q f n (i +ℤ pos 1))
 
 pub without_member : (q : Quantifier) (f : ℤ → Outcome) (n : ℕ) (i : ℤ) (before : Bool) (u : Undefined) → f i ≡ Err u → continued q f (suc n) i before ≡ Err u
 without_member q f n i before u h = ap (λ (r : Outcome). and_then (and_then r (λ x. and_then (quantified q f n (i +ℤ pos 1)) (λ w. truth (joined q (as_bool x) (as_bool w))))) (λ w. truth (joined q before (as_bool w)))) h

@@ -11,7 +11,7 @@ abbrev pub names_step : Names-F (List Value) → List Value
 names_step (shape.Locals vs) = vs.now
 names_step (shape.Bound outer v) = outer.now ++ v ∷ []
 
--- the values of the locals, and behind them those of the bound names
+-- the values of the locals, and after them those of the bound names
 abbrev pub values : Names → List Value
 values = fold-Names (List Value) names_step
 

@@ -45,7 +45,7 @@ impl Effect {
 }
 
 impl Object {
-    /// The object at `q` behind the effect.
+    /// The object at `q` after the effect.
     fn undergo(&mut self, e: Effect, q: usize)
         requires { IsTold e }
         ensures { self.new ≡ effect e q self.old }

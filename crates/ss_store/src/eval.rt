@@ -6,7 +6,7 @@ ghost use Rattle.ss_core.specs.Chain.{most_classes};
 ghost use Rattle.ss_store_rules.specs.Values as values;
 ghost use Rattle.ss_store_rules.specs.Reads as reads;
 ghost use Rattle.ss_store.specs.Contexts.{setting_of};
-ghost use Rattle.ss_store.specs.Grouped.{link_behind, step_behind, IsBehind};
+ghost use Rattle.ss_store.specs.Grouped.{link_after, step_after, IsAfter};
 
 use crate::arithmetic::{apply, as_bool, as_int, decides, negate};
 use crate::before::Before;
@@ -87,7 +87,7 @@ fn eval_links<B: Before>(
     links: &[Link],
 ) -> Result<Value, Undefined>
     requires { length (view.classes context.now.classes.now) ≤ most_classes }
-    ensures { IsBehind (setting_of B.told context.now) place first (map link_behind links.now) result }
+    ensures { IsAfter (setting_of B.told context.now) place first (map link_after links.now) result }
 {
     let mut value = first;
     for link in links {
@@ -96,7 +96,7 @@ fn eval_links<B: Before>(
     Ok(value)
 }
 
-// The value of an operand of this value with one link behind it.
+// The value of an operand of this value with one link after it.
 #[cycle(eval)]
 fn eval_link<B: Before>(
     context: &Context<'_, B>,
@@ -105,7 +105,7 @@ fn eval_link<B: Before>(
     link: &Link,
 ) -> Result<Value, Undefined>
     requires { length (view.classes context.now.classes.now) ≤ most_classes }
-    ensures { IsBehind (setting_of B.told context.now) place left (link_behind link.now ∷ []) result }
+    ensures { IsAfter (setting_of B.told context.now) place left (link_after link.now ∷ []) result }
 {
     match link {
         Link::Operation(operator, e) => {
@@ -135,7 +135,7 @@ fn eval_steps<B: Before>(
     steps: &[Step],
 ) -> Result<Value, Undefined>
     requires { length (view.classes context.now.classes.now) ≤ most_classes }
-    ensures { IsBehind (setting_of B.told context.now) place first (map step_behind steps.now) result }
+    ensures { IsAfter (setting_of B.told context.now) place first (map step_after steps.now) result }
 {
     let mut value = first;
     for step in steps {
@@ -153,7 +153,7 @@ fn eval_step<B: Before>(
     step: &Step,
 ) -> Result<Value, Undefined>
     requires { length (view.classes context.now.classes.now) ≤ most_classes }
-    ensures { IsBehind (setting_of B.told context.now) place from (step_behind step.now ∷ []) result }
+    ensures { IsAfter (setting_of B.told context.now) place from (step_after step.now ∷ []) result }
 {
     match step {
         Step::Field(f) => context.read_field(place, from, *f),

@@ -4,7 +4,7 @@ ghost use Rattle.ss_store.specs.Names.{values, look_up, or_next, local_read};
 
 use ss_store_rules::Value;
 
-/// The values of the locals, and behind them those of the bound names, from the outermost inwards.
+/// The values of the locals, and after them those of the bound names, from the outermost inwards.
 #[derive(Drop)]
 pub(crate) enum Names<'a> {
     Locals(&'a [Value]),

@@ -9,7 +9,7 @@ use Rattle.ss_core.proofs.Chains.{levels_up}
 use Rattle.ss_store_rules.specs.Store.{Slot}
 use Rattle.ss_store_rules.specs.Changes.{slots_from, new_fields}
 
--- An object has the fields that one of the class above has, in the same places, and behind them those that its own class declares.
+-- An object has the fields that one of the class above has, in the same places, and after them those that its own class declares.
 pub new_fields-above : (cs : List ClassTree) → IsChain cs → (t : ℕ) → t ≢ 0 → new_fields cs t ≡ new_fields cs (above cs t) ++ slots_from t 0 (all_fields cs)
 new_fields-above cs chain t nz =
     let F : ℕ → List Slot = λ level. slots_from level 0 (all_fields cs) in

@@ -187,35 +187,35 @@ is_there x = BinaryExpr at op.NotEqual (local x) (NullExpr at)
 a_value_that_may_be_null : nulls_stay_out (Then (assign 2 (local 0)) return) ≡ false
 a_value_that_may_be_null = refl
 
-behind_a_test : nulls_stay_out (Then (IfStmt at (is_there 0) (Then (assign 2 (local 0)) NoCode) NoCode) return) ≡ true
-behind_a_test = refl
+after_a_test : nulls_stay_out (Then (IfStmt at (is_there 0) (Then (assign 2 (local 0)) NoCode) NoCode) return) ≡ true
+after_a_test = refl
 
 -- k = x != null && true; if (k) { .. }
-behind_a_test_that_a_local_keeps : nulls_stay_out (Then (assign 3 (BinaryExpr at op.And (is_there 0) (BoolExpr at true))) (Then (IfStmt at (local 3) (Then (assign 2 (local 0)) NoCode) NoCode) return)) ≡ true
-behind_a_test_that_a_local_keeps = refl
+after_a_test_that_a_local_keeps : nulls_stay_out (Then (assign 3 (BinaryExpr at op.And (is_there 0) (BoolExpr at true))) (Then (IfStmt at (local 3) (Then (assign 2 (local 0)) NoCode) NoCode) return)) ≡ true
+after_a_test_that_a_local_keeps = refl
 
 -- k = x != null; if (k) { k = true; } if (k) { .. }
-behind_a_test_in_two_steps : nulls_stay_out (Then (assign 3 (is_there 0)) (Then (IfStmt at (local 3) (Then (assign 3 (BoolExpr at true)) NoCode) NoCode) (Then (IfStmt at (local 3) (Then (assign 2 (local 0)) NoCode) NoCode) return))) ≡ true
-behind_a_test_in_two_steps = refl
+after_a_test_in_two_steps : nulls_stay_out (Then (assign 3 (is_there 0)) (Then (IfStmt at (local 3) (Then (assign 3 (BoolExpr at true)) NoCode) NoCode) (Then (IfStmt at (local 3) (Then (assign 2 (local 0)) NoCode) NoCode) return))) ≡ true
+after_a_test_in_two_steps = refl
 
 -- if (x == null || false) { } else { .. }
-behind_a_disjunction : nulls_stay_out (Then (IfStmt at (BinaryExpr at op.Or (BinaryExpr at op.Equal (local 0) (NullExpr at)) (BoolExpr at false)) NoCode (Then (assign 2 (local 0)) NoCode)) return) ≡ true
-behind_a_disjunction = refl
+after_a_disjunction : nulls_stay_out (Then (IfStmt at (BinaryExpr at op.Or (BinaryExpr at op.Equal (local 0) (NullExpr at)) (BoolExpr at false)) NoCode (Then (assign 2 (local 0)) NoCode)) return) ≡ true
+after_a_disjunction = refl
 
 -- if (x == null) { return; } ..
-behind_an_end_that_is_not_reached : nulls_stay_out (Then (IfStmt at (BinaryExpr at op.Equal (local 0) (NullExpr at)) return NoCode) (Then (assign 2 (local 0)) return)) ≡ true
-behind_an_end_that_is_not_reached = refl
+after_an_end_that_is_not_reached : nulls_stay_out (Then (IfStmt at (BinaryExpr at op.Equal (local 0) (NullExpr at)) return NoCode) (Then (assign 2 (local 0)) return)) ≡ true
+after_an_end_that_is_not_reached = refl
 
 -- if (null != x) { .. } tells nothing, and neither does an assert
 the_other_way_round : nulls_stay_out (Then (IfStmt at (BinaryExpr at op.NotEqual (NullExpr at) (local 0)) (Then (assign 2 (local 0)) NoCode) NoCode) return) ≡ false
 the_other_way_round = refl
 
-behind_an_assert : nulls_stay_out (Then (AssertStmt at (is_there 0)) (Then (assign 2 (local 0)) return)) ≡ false
-behind_an_assert = refl
+after_an_assert : nulls_stay_out (Then (AssertStmt at (is_there 0)) (Then (assign 2 (local 0)) return)) ≡ false
+after_an_assert = refl
 
 -- k = x != null; x = y; if (k) { .. }
-behind_an_assignment : nulls_stay_out (Then (assign 1 (local 0)) (Then (assign 3 (is_there 1)) (Then (assign 1 (local 0)) (Then (IfStmt at (local 3) (Then (assign 2 (local 1)) NoCode) NoCode) return)))) ≡ false
-behind_an_assignment = refl
+after_an_assignment : nulls_stay_out (Then (assign 1 (local 0)) (Then (assign 3 (is_there 1)) (Then (assign 1 (local 0)) (Then (IfStmt at (local 3) (Then (assign 2 (local 1)) NoCode) NoCode) return)))) ≡ false
+after_an_assignment = refl
 
 -- while (true) { z = x; x = y; }, entered where x isn't null
 a_loop_forgets_what_it_assigns : nulls_stay_out (Then (NewStmt at (Some 1) 4 (this ∷ [])) (Then (LoopStmt at [] NoCode (BoolExpr at true) (Then (assign 2 (local 1)) (Then (assign 1 (local 0)) NoCode)) []) NoCode)) ≡ false
@@ -235,7 +235,7 @@ an_expose_around_a_loop = refl
 an_expose_that_ends_in_the_loop : names_its_exposes (method (Then (UnpackStmt at 0 4) (a_loop_that_names NoCode))) ≡ false
 an_expose_that_ends_in_the_loop = refl
 
--- behind a return no path leads, and the loop names a local that isn't there
+-- after a return no path leads, and the loop names a local that isn't there
 a_loop_that_names_nothing : each (has_exposable classes (method return)) (Then (ReturnStmt at None) (Then (LoopStmt at [] NoCode (BoolExpr at false) NoCode (record { local = 9; class = 4 } ∷ [])) NoCode)) ≡ false
 a_loop_that_names_nothing = refl
 
@@ -291,8 +291,8 @@ base_twice = refl
 no_base : order_of_6 true return ≡ false
 no_base = refl
 
-ready_behind_base : order_of_6 false (Then base (Then (ReadyStmt at) return)) ≡ true
-ready_behind_base = refl
+ready_after_base : order_of_6 false (Then base (Then (ReadyStmt at) return)) ≡ true
+ready_after_base = refl
 
 ready_in_a_delayed_constructor : order_of_6 true (Then base (Then (ReadyStmt at) return)) ≡ false
 ready_in_a_delayed_constructor = refl
@@ -316,8 +316,8 @@ undelayed_of_4 code = record (constructor_of_4 code) { flags = constructor_flags
 abbrev number_of_this : StmtTree
 number_of_this = AssignStmt at 2 (FieldExpr at this 0)
 
-this_behind_ready : writes_this_first (undelayed_of_4 (Then (write_reference (local 1)) (Then (ReadyStmt at) (Then number_of_this return)))) ≡ true
-this_behind_ready = refl
+this_after_ready : writes_this_first (undelayed_of_4 (Then (write_reference (local 1)) (Then (ReadyStmt at) (Then number_of_this return)))) ≡ true
+this_after_ready = refl
 
 this_before_ready : writes_this_first (undelayed_of_4 (Then (write_reference (local 1)) (Then number_of_this (Then (ReadyStmt at) return)))) ≡ false
 this_before_ready = refl

@@ -75,9 +75,9 @@ opening NoCode = NoCode
 opening (Then s code) = if is_base_or_ready s then NoCode else Then s (opening code)
 
 -- the statements from there on, none where neither stands there
-abbrev pub behind_opening : CodeTree → CodeTree
-behind_opening NoCode = NoCode
-behind_opening (Then s code) = if is_base_or_ready s then Then s code else behind_opening code
+abbrev pub after_opening : CodeTree → CodeTree
+after_opening NoCode = NoCode
+after_opening (Then s code) = if is_base_or_ready s then Then s code else after_opening code
 
 -- the code begins with `base(..)` and then with `ready this`, each where it is wanted, and neither stands anywhere else
 abbrev pub begins_with : Bool → Bool → CodeTree → Bool
@@ -151,7 +151,7 @@ abbrev mutual
   packs_at_returns t NoCode = true
   packs_at_returns t (Then s code) = is_pack_before t code s && packs_at_returns_inside t s && packs_at_returns t code
 
-  -- the statement, behind which this code stands, is no pack of `this` but such a one
+  -- the statement, after which this code stands, is no pack of `this` but such a one
   pub is_pack_before : ℕ → CodeTree → StmtTree → Bool
   is_pack_before t code (PackStmt p x u) = not (x == 0) || u == t && begins_with_return code
   is_pack_before t code s = true
@@ -162,9 +162,9 @@ abbrev mutual
 abbrev pub requires_nothing_of_this : BodyTree → Bool
 requires_nothing_of_this b = not b.flags.ctor || list_all (λ e. is_default e || is_without_this e) b.entry
 
--- `base(..)` and `ready this` stand once each where they are wanted, among the outermost statements and the second directly behind the first
+-- `base(..)` and `ready this` stand once each where they are wanted, among the outermost statements and the second directly after the first
 abbrev pub starts_in_order : CoreTree → BodyTree → Bool
-starts_in_order c b = has_no_base_or_ready (opening b.code) && begins_with (wants_base c b) (wants_ready c b) (behind_opening b.code)
+starts_in_order c b = has_no_base_or_ready (opening b.code) && begins_with (wants_base c b) (wants_ready c b) (after_opening b.code)
 
 -- every path to the end passes them, and before them `this` has only fields of the class written
 abbrev pub has_opening : CoreTree → BodyTree → Bool
@@ -182,7 +182,7 @@ if_undelayed b condition = not b.flags.ctor || b.flags.delayed || condition
 
 -- up to `base(..)` and `ready this`, the arguments of the first included, `this` is only written to
 abbrev pub writes_this_first : BodyTree → Bool
-writes_this_first b = each (only_writes_this b.class) (opening b.code) && has_base_without_this (behind_opening b.code)
+writes_this_first b = each (only_writes_this b.class) (opening b.code) && has_base_without_this (after_opening b.code)
 
 -- and there each non-null field of the class is assigned on every path
 abbrev pub is_ready_with_fields : CoreTree → BodyTree → Bool

@@ -161,7 +161,7 @@ result_of (Some b) = b.result
 abbrev pub is_field_above : CoreTree → BodyTree → ℕ → Bool
 is_field_above c b f = below c.classes b.class (field_class c.classes f) && not (field_class c.classes f == b.class)
 
--- the constructor of the class above gives the fields above their values, and behind it the `this` of one that isn't delayed has all
+-- the constructor of the class above gives the fields above their values, and after it the `this` of one that isn't delayed has all
 abbrev pub with_base : CoreTree → BodyTree → CalleeTree → Known → Known
 with_base c b (BaseConstructor n) k = record k { fields = λ f. k.fields f || not b.flags.delayed || is_field_above c b f }
 with_base c b callee k = k

@@ -11,7 +11,7 @@ is_literal_true (BoolExpr p b) = b
 is_literal_true e = false
 
 abbrev mutual
-  -- what stands behind the statement can be reached
+  -- what stands after the statement can be reached
   pub passes : StmtTree → Bool
   passes (IfStmt p e a b) = reaches_end a || reaches_end b
   passes (LoopStmt p invariants prelude e body exposes) = not (is_literal_true e)
@@ -27,7 +27,7 @@ abbrev mutual
 
 -- How a kind of knowledge goes along paths.
 pub record Flow (S : Type 0) : Type 0 where
-  -- behind a statement that is neither an `if`, a loop nor a return
+  -- after a statement that is neither an `if`, a loop nor a return
   pub after : StmtTree → S → S
   -- where a test has come out true, or false
   pub tested : ExprTree → Bool → S → S
@@ -42,12 +42,12 @@ met f None k = k
 met f (Some k) None = Some k
 met f (Some k) (Some l) = Some (f.meet k l)
 
--- behind a loop, where this is known at its test
+-- after a loop, where this is known at its test
 abbrev pub left : {S : Type 0} → Flow S → ExprTree → Option S → Option S
 left f e k = if is_literal_true e then None else option_map (f.tested e false) k
 
 abbrev mutual
-  -- what is known behind the statement
+  -- what is known after the statement
   pub behind : {S : Type 0} → Flow S → StmtTree → S → Option S
   behind f (IfStmt p e a b) k = met f (at_end f a (Some (f.tested e true k))) (at_end f b (Some (f.tested e false k)))
   behind f (LoopStmt p invariants prelude e body exposes) k = left f e (at_end f prelude (Some (f.head (LoopStmt p invariants prelude e body exposes) k)))

@@ -13,7 +13,7 @@ is_this_of_constructor b x = b.flags.ctor && x == 0
 
 -- The values of the locals of the body b, in the store s.
 pub record AreGoodLocals (cs : List ClassTree) (s : List Object) (b : BodyTree) (locals : List Value) : Type 0 where
-  -- there is one for each local, so that the bound names stand behind them
+  -- there is one for each local, so that the bound names stand after them
   pub count : length locals ≡ length (local_types b)
   -- each is of its local's type, and a reference is allocated
   pub types : (x : ℕ) (t : Ty) (v : Value) → slice_get (local_types b) x ≡ Some t → slice_get locals x ≡ Some v → has_type cs s t v ≡ true

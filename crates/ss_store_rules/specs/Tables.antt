@@ -8,7 +8,7 @@ use Rattle.ss_store_rules.specs.Changes.{below}
 use Rattle.ss_store_rules.specs.Locals.{types_of, argument_count}
 use Rattle.ss_store_rules.specs.Typed.{body_at, table}
 
--- ---- Contracts of two bodies are compared by what they are in bodies without other locals: the arguments keep their numbers, and behind
+-- ---- Contracts of two bodies are compared by what they are in bodies without other locals: the arguments keep their numbers, and after
 -- them stand the result and then the bound names.
 
 abbrev pub normal_number : BodyTree → ℕ → ℕ
@@ -116,7 +116,7 @@ pub record IsTable (c : CoreTree) (t : ℕ) : Type 0 where
   pub methods : list_all (λ e. is_method c.classes t e (body_at c e.body)) (table c.classes t) ≡ true
   -- it begins with the names of the table above, in their order
   pub names : map (λ e. e.name) (take (length (table_above c t)) (table c.classes t)) ≡ map (λ e. e.name) (table_above c t)
-  -- behind them stand methods of the class itself
+  -- after them stand methods of the class itself
   pub own : list_all (λ e. is_method_of t (body_at c e.body)) (drop (length (table_above c t)) (table c.classes t)) ≡ true
   pub inherited : (m : ℕ) (old new : EntryTree) (from to : BodyTree) → slice_get (table_above c t) m ≡ Some old → slice_get (table c.classes t) m ≡ Some new → body_at c old.body ≡ Some from → body_at c new.body ≡ Some to → Replaces t old new from to
 

@@ -59,12 +59,12 @@ abbrev pub declare_all : Scope → TypeTree → List DeclaratorTree → Scope
 declare_all s t [] = s
 declare_all s t (d ∷ ds) = declare_all (declare_local s t d.name) t ds
 
-abbrev pub behind_declaration : Scope → DeclarationTree → Scope
-behind_declaration s d = declare_all s d.ty d.declarators
+abbrev pub after_declaration : Scope → DeclarationTree → Scope
+after_declaration s d = declare_all s d.ty d.declarators
 
--- the scope behind a statement: a declaration alone changes it
+-- the scope after a statement: a declaration alone changes it
 abbrev pub behind : Scope → StmtTree → Scope
-behind s (DeclareOf d) = behind_declaration s d
+behind s (DeclareOf d) = after_declaration s d
 behind s (InBlock b) = s
 behind s (SimpleOf x) = s
 behind s (IfOf p e a) = s
@@ -77,11 +77,11 @@ behind s (AssumeOf p e) = s
 behind s (ExposeOf p e n b) = s
 behind s (EmptyOf p) = s
 
--- behind what a `for` begins with
-abbrev pub behind_init : Scope → Option ForInitTree → Scope
-behind_init s None = s
-behind_init s (Some (DeclareFirst d)) = behind_declaration s d
-behind_init s (Some (SimpleFirst x)) = s
+-- after what a `for` begins with
+abbrev pub after_init : Scope → Option ForInitTree → Scope
+after_init s None = s
+after_init s (Some (DeclareFirst d)) = after_declaration s d
+after_init s (Some (SimpleFirst x)) = s
 
 abbrev pub declare_params : Scope → List ParamTree → Scope
 declare_params s [] = s

@@ -109,7 +109,7 @@ member_type cs n None = None
 member_type cs n (Some t) =
     if is_array_number t then (if is_length n then Some ty.Int else None) else field_type cs n (declared_place t)
 
--- what is read behind the dot; a state word is a truth value
+-- what is read after the dot; a state word is a truth value
 abbrev pub read_type : List ClassTree → List ℕ → Receiver → Option Ty
 read_type cs n TheConsole = None
 read_type cs n TheOwner = None
@@ -178,7 +178,7 @@ abbrev pub level_callee : Option Ty → Callee
 level_callee None = AWord 0
 level_callee (Some t) = if has_levels t then AWord 1 else NoCallee
 
--- what is called behind the dot: a static method of a class, or a method of an object; a question about a level is one about a reference
+-- what is called after the dot: a static method of a class, or a method of an object; a question about a level is one about a reference
 abbrev pub member_callee : Scope → List ℕ → Receiver → Callee
 member_callee s n TheConsole = if is_print n then APrint (bytes_eq n (codes "WriteLine")) else NoCallee
 member_callee s n TheOwner = if is_owner_word n then AWord (owner_count n) else NoCallee

@@ -9,15 +9,15 @@ is_console n = bytes_eq n (codes "Console")
 abbrev pub is_owner : List ℕ → Bool
 is_owner n = bytes_eq n (codes "Owner")
 
--- what may stand behind `Console.`
+-- what may stand after `Console.`
 abbrev pub is_print : List ℕ → Bool
 is_print n = bytes_eq n (codes "Write") || bytes_eq n (codes "WriteLine")
 
--- a question about owners, behind `Owner.`
+-- a question about owners, after `Owner.`
 abbrev pub is_owner_word : List ℕ → Bool
 is_owner_word n = bytes_eq n (codes "None") || bytes_eq n (codes "Same") || bytes_eq n (codes "Is")
 
--- the state words without arguments, behind any other dot
+-- the state words without arguments, after any other dot
 abbrev pub is_state_read : List ℕ → Bool
 is_state_read n = bytes_eq n (codes "IsConsistent") || bytes_eq n (codes "IsCommitted") || bytes_eq n (codes "IsNew")
 

@@ -4,7 +4,7 @@ ghost use Rattle.std.specs.Prelude.{◌≡◌, true, map, OnOk, option_map};
 ghost use Rattle.ss_ast.specs.Expressions.{name_tree, type_tree};
 ghost use Rattle.ss_ast.specs.Statements.{declarator_tree, declaration_tree, for_init_tree};
 ghost use Rattle.ss_ast.specs.Programs.{param_tree};
-ghost use Rattle.ss_tables.specs.Scopes.{declare_local, declare_all, behind_declaration, behind_init, declare, declare_params};
+ghost use Rattle.ss_tables.specs.Scopes.{declare_local, declare_all, after_declaration, after_init, declare, declare_params};
 ghost use Rattle.ss_tables.specs.Types.{written_type};
 ghost use Rattle.ss_tables_lookup.specs.Classes.{trees};
 ghost use Rattle.ss_tables_scopes.specs.Views.{scope_of};
@@ -82,7 +82,7 @@ pub fn declare_declaration(
     locals: &mut Scopes,
     declaration: &Declaration,
 ) -> Result<(), AllocError>
-    ensures declared { OnOk result (scope_of context.entry locals.new ≡ behind_declaration (scope_of context.entry locals.old) (declaration_tree declaration.now)) }
+    ensures declared { OnOk result (scope_of context.entry locals.new ≡ after_declaration (scope_of context.entry locals.old) (declaration_tree declaration.now)) }
     ensures around { OnOk result (locals.new.outer ≡ locals.old.outer) }
 {
     declare_all(context, locals, &declaration.ty, &declaration.declarators)
@@ -94,7 +94,7 @@ pub fn declare_init(
     locals: &mut Scopes,
     init: &Option<ForInit>,
 ) -> Result<(), AllocError>
-    ensures declared { OnOk result (scope_of context.entry locals.new ≡ behind_init (scope_of context.entry locals.old) (option_map for_init_tree init.now)) }
+    ensures declared { OnOk result (scope_of context.entry locals.new ≡ after_init (scope_of context.entry locals.old) (option_map for_init_tree init.now)) }
     ensures around { OnOk result (locals.new.outer ≡ locals.old.outer) }
 {
     match init {

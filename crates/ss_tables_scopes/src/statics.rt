@@ -181,7 +181,7 @@ fn value_type(tables: &Tables<'_>, name: &str, ty: Option<StaticType>) -> Option
     member_type(tables, name, class_of_type(ty))
 }
 
-/// The static type of what is read behind a dot.
+/// The static type of what is read after a dot.
 pub fn read_type(tables: &Tables<'_>, name: &str, receiver: Receiver) -> Option<StaticType>
     ensures { option_map type_of result ≡ read_type (trees tables.now) name.now (receiver_of receiver) }
 {
@@ -372,7 +372,7 @@ fn owner_callee<'p>(name: &str) -> Callee<'p>
     }
 }
 
-/// What a call of what stands behind a dot calls.
+/// What a call of what stands after a dot calls.
 pub fn member_callee<'p>(
     context: ClassContext<'_, 'p>,
     name: &str,

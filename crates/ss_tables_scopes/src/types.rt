@@ -4,7 +4,7 @@ ghost use Rattle.std.specs.Prelude.{◌≡◌, option_map, option_and_then};
 ghost use Rattle.ss_core.specs.declared.names.Place.{Place};
 ghost use Rattle.ss_core.specs.Types.{nullable};
 ghost use Rattle.ss_ast.specs.Expressions.{ExprTree, type_tree};
-ghost use Rattle.ss_ast.specs.Parts.{link_behind};
+ghost use Rattle.ss_ast.specs.Parts.{link_after};
 ghost use Rattle.ss_tables.specs.Types.{class_of, element_type, written_type};
 ghost use Rattle.ss_tables.specs.Statics.{operation_type, cast_type, static};
 ghost use Rattle.ss_tables_lookup.specs.Classes.{trees};
@@ -61,9 +61,9 @@ fn type_of_as(tables: &Tables<'_>, ty: &TypeRef) -> Option<StaticType>
     nullable_type(type_of_cast(tables, ty))
 }
 
-/// The type of an expression with this link behind it.
+/// The type of an expression with this link after it.
 pub fn link_type(context: ClassContext<'_, '_>, link: &Link) -> Option<StaticType>
-    ensures { (names : Names) → (p : Place) → (e : ExprTree) → option_map type_of result ≡ static (scope_of context.entry names) (link_behind link.now p e) }
+    ensures { (names : Names) → (p : Place) → (e : ExprTree) → option_map type_of result ≡ static (scope_of context.entry names) (link_after link.now p e) }
 {
     match link {
         Link::Operation(operator, _) => Some(operation_type(*operator)),

@@ -1,4 +1,4 @@
--- Lists of numbers that a bank has, with more of them behind.
+-- Lists of numbers that a bank has, with more of them after.
 use Rattle.std.proofs.Common.{List, [], ◌∷◌, ◌++◌}
 use Rattle.ss_terms.specs.declared.forms.TermId.{TermId}
 use Rattle.ss_terms.specs.declared.forms.FormulaId.{FormulaId}

@@ -265,7 +265,7 @@ impl Bank {
         }
     }
 
-    /// Forgets the terms and formulas behind the mark, and answers whether it did. It does where the bank reaches the mark, and
+    /// Forgets the terms and formulas after the mark, and answers whether it did. It does where the bank reaches the mark, and
     /// all terms stand before it that were there when the last formula before it came. Else the bank stays as it was.
     pub fn forget(&mut self, mark: BankMark) -> bool
         ensures forgotten { IsTrue result → self.new ≡ front mark.terms mark.formulas self.old }
@@ -282,7 +282,7 @@ impl Bank {
     }
 
     // Whether the bank reaches the mark, and all terms stand before it that were there when the last formula before it came.
-    // Then no formula before it names a term behind it.
+    // Then no formula before it names a term after it.
     fn is_closed(&self, mark: BankMark) -> bool
         ensures { IsTrue result → IsClosed mark.terms mark.formulas self.now }
     {

@@ -14,7 +14,7 @@ use crate::sorts::{are_bound_sorts, result_sort, takes, takes_sorts};
 use ss_logic::Sort;
 use std::alloc::{AllocError, Global};
 
-// The sorts, one list behind the other.
+// The sorts, one list after the other.
 fn joined(alloc: Global, xs: &[Sort], ys: &[Sort]) -> Result<Vec<Sort>, AllocError>
     ensures { IfOk result (λ v. v.items ≡ xs.now ++ ys.now) }
 {

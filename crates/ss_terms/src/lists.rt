@@ -50,7 +50,7 @@ impl Arguments {
         self.list.len()
     }
 
-    /// One more, behind the others. An error is want of memory; the others stay.
+    /// One more, after the others. An error is want of memory; the others stay.
     pub fn push(&mut self, number: TermId) -> Result<(), AllocError>
         ensures items { OnOk result (self.new.items ≡ self.old.items ++ number ∷ []) }
         ensures same { OnErr result (self.new.items ≡ self.old.items) }
@@ -122,7 +122,7 @@ impl Parts {
         self.list.len()
     }
 
-    /// One more, behind the others. An error is want of memory; the others stay.
+    /// One more, after the others. An error is want of memory; the others stay.
     pub fn push(&mut self, number: FormulaId) -> Result<(), AllocError>
         ensures items { OnOk result (self.new.items ≡ self.old.items ++ number ∷ []) }
         ensures same { OnErr result (self.new.items ≡ self.old.items) }

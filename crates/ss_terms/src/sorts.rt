@@ -24,7 +24,7 @@ pub fn field_sorts(alloc: Global, classes: &Classes) -> Result<Vec<Sort>, AllocE
     Ok(sorts)
 }
 
-// The sorts of the class's fields, behind the others.
+// The sorts of the class's fields, after the others.
 fn add_fields(sorts: &mut Vec<Sort>, class: &Class) -> Result<(), AllocError>
     ensures { OnOk result (sorts.new.items ≡ sorts.old.items ++ class_sorts (view.class_of class.now)) }
 {

@@ -132,7 +132,7 @@ constant_is (App (New c) ts) s k h = cc
 constant_is (App (NewArray c) ts) s k h = cc
 constant_is (App MakeReady ts) s k h = cc
 
--- the first of rising constants, and those behind it
+-- the first of rising constants, and those after it
 rising_first : (n : ℕ) (t : Term) (ts : List Term) → are_rising n (t ∷ ts) ≡ true → (s : Sort) × (k : ℕ) × (t ≡ App (Constant s k) no_terms) × (n < k) × (are_rising k ts ≡ true)
 rising_first n t ts h = by (constant_of t) refl h
   where

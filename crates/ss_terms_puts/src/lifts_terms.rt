@@ -10,7 +10,7 @@ use ss_core::Classes;
 use ss_terms::{Arguments, Bank, Term, TermId};
 use std::alloc::{AllocError, Global};
 
-/// The bound name behind n more; a number that is too large counts as want of memory.
+/// The bound name after n more; a number that is too large counts as want of memory.
 fn later_name(bank: &mut Bank, n: usize, k: usize) -> Result<TermId, AllocError>
     ensures at { IfOk result (λ u. HasTerm bank.new u × (term_at bank.new u ≡ tree.Bound (n + k))) }
     ensures grown { IsGrown bank.old bank.new }

@@ -1,4 +1,4 @@
-// Equal forms have equal numbers, and what came behind a mark can be forgotten.
+// Equal forms have equal numbers, and what came after a mark can be forgotten.
 
 use ss_logic::Sort;
 use ss_terms::{Bank, BankMark, FormulaId, Symbol};
@@ -75,7 +75,7 @@ fn shares_the_parts_of_nested_formulas(rt: HostRuntime) -> Result<(), Fail> {
     Ok(())
 }
 
-/// Behind a mark a third term, and a formula that names it. Whether both are forgotten, and the term gets its number again.
+/// After a mark a third term, and a formula that names it. Whether both are forgotten, and the term gets its number again.
 fn is_third_again(bank: &mut Bank) -> Result<bool, AllocError> {
     let mark = bank.mark();
     let third = bank.number(3)?;
@@ -93,14 +93,14 @@ fn are_forgotten(bank: &mut Bank) -> Result<bool, AllocError> {
 }
 
 #[test]
-fn forgets_what_came_behind_a_mark(rt: HostRuntime) -> Result<(), Fail> {
+fn forgets_what_came_after_a_mark(rt: HostRuntime) -> Result<(), Fail> {
     let mut bank = empty(rt.alloc());
     let held = are_forgotten(&mut bank)?;
     assert!(rt; held);
     Ok(())
 }
 
-/// `c0 = 1`. Whether nothing is forgotten behind a mark between its terms, and behind one that the bank doesn't reach.
+/// `c0 = 1`. Whether nothing is forgotten after a mark between its terms, and after one that the bank doesn't reach.
 fn are_kept(bank: &mut Bank) -> Result<bool, AllocError> {
     let _ = equality(bank, 0, 1)?;
     let between = bank.forget(BankMark {

@@ -54,7 +54,7 @@ fn call(c: &Core, s: &mut Stores, b: &Body, part: u32, n: i32) -> bool
     entered && written && kept
 }
 
-/// Whether the element is written, and the frame condition of the running body holds behind it.
+/// Whether the element is written, and the frame condition of the running body holds after it.
 fn turn(c: &Core, s: &mut Stores, b: &Body, array: u32, n: i32) -> bool
     requires { IsWithinLimits (classes c.now.classes) }
 {

@@ -7,7 +7,7 @@ use ss_tests_reader::{Reader, has_formulas, has_terms};
 use std::alloc::{AllocError, Global};
 use std::test::Fail;
 
-// The constants, and behind the colon the formulas that are there.
+// The constants, and after the colon the formulas that are there.
 const NEW: &str = "
 x5 x6 :
 x5 x6 : (alloc s0 x0) (<= i5 i6)

@@ -733,7 +733,7 @@ end
 accepted
 ";
 
-/// Derivations with a line that is no step. The first such line is named, counted from the one behind `obligation`.
+/// Derivations with a line that is no step. The first such line is named, counted from the one after `obligation`.
 pub const REFUSED: &str = "
 # a read of another field isn't the new value
 goal (= (field (set s0 x0 f2 x1) x0 f4) x1)

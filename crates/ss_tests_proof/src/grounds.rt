@@ -15,7 +15,7 @@ use ss_tests_reader::has_formulas;
 use std::alloc::{AllocError, Global};
 use std::test::Fail;
 
-/// Obligations. The formulas behind `is` are the ground form after the rounds behind `after`, in order, and no fewer are allowed.
+/// Obligations. The formulas after `is` are the ground form after the rounds after `after`, in order, and no fewer are allowed.
 const GROUND: &str = "
 # a denied `forall` is opened at the first constant that is new
 given (<= i2 i0)

@@ -7,7 +7,7 @@ use ss_terms::{Bank, FormulaId, Symbol, Term, TermId};
 use ss_tests_reader::{Reader, free_rule, good_rule};
 use std::alloc::{AllocError, Global};
 
-/// The first word of a text, and what stands behind its blank.
+/// The first word of a text, and what stands after its blank.
 pub fn first_word(text: &str) -> (&str, &str) {
     match text.split_once(' ') {
         Some(parts) => parts,

@@ -1,4 +1,4 @@
-// What the rules say. A line has a rule and its arguments, and behind the colon its sentence. `S` is the store of the arguments.
+// What the rules say. A line has a rule and its arguments, and after the colon its sentence. `S` is the store of the arguments.
 
 /// Arguments that fit.
 pub const FITTING: &str = "

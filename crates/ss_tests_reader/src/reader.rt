@@ -84,7 +84,7 @@ fn other(bank: &Bank, f: FormulaId) -> FormulaId {
     }
 }
 
-// What stands behind a parenthesis that is open, and how many terms, formulas and sorts stand before it.
+// What stands after a parenthesis that is open, and how many terms, formulas and sorts stand before it.
 #[derive(Clone, Copy)]
 struct Open {
     head: Head,
@@ -93,7 +93,7 @@ struct Open {
     sorts: usize,
 }
 
-/// The terms and formulas of a text, one behind the other.
+/// The terms and formulas of a text, one after the other.
 #[derive(Drop)]
 pub struct Reader {
     pub terms: Vec<TermId>,

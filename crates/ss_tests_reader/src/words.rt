@@ -4,7 +4,7 @@ use ss_logic::{GoodRule, RuleName as EveryRule, Sort};
 use ss_rules::RuleName;
 use ss_terms::{Predicate, Symbol};
 
-/// What stands behind an opening parenthesis.
+/// What stands after an opening parenthesis.
 #[derive(Clone, Copy)]
 pub enum Head {
     Function(Symbol),
@@ -84,7 +84,7 @@ fn store(word: &str) -> Option<Symbol> {
     }
 }
 
-// The number behind this letter.
+// The number after this letter.
 fn field(word: &str) -> Option<u32> {
     word.strip_prefix("f")?.parse::<u32>().ok()
 }

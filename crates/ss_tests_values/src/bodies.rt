@@ -6,7 +6,7 @@ use ss_parser::parse_block;
 use std::alloc::{AllocError, Global};
 use std::test::Fail;
 
-// How many tokens are left behind the block that begins with the token `at`; or the rule and the place of the fault.
+// How many tokens are left after the block that begins with the token `at`; or the rule and the place of the fault.
 fn shown(alloc: Global, source: &[u8], at: usize) -> Result<String, AllocError> {
     let read = match tokens(alloc, source) {
         Ok(read) => read,

@@ -25,7 +25,7 @@ fn kind(expr: &Expr) -> &'static str {
     }
 }
 
-// What the first expression is, and the number of the token behind it; or the rule and the place of the fault.
+// What the first expression is, and the number of the token after it; or the rule and the place of the fault.
 fn shown(alloc: Global, source: &[u8]) -> Result<String, AllocError> {
     let read = match tokens(alloc, source) {
         Ok(read) => read,

@@ -42,7 +42,7 @@ fn names(alloc: Global) -> Result<bool, AllocError> {
     )
 }
 
-// The second read fails, as it is listed, and the one behind it doesn't.
+// The second read fails, as it is listed, and the one after it doesn't.
 fn listed_reads(alloc: Global) -> Result<bool, AllocError> {
     let mut files = two_of_one_name(alloc, &[1])?;
     Ok(

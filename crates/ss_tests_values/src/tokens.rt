@@ -151,7 +151,7 @@ fn first_refused(alloc: Global, sources: &[&[u8]]) -> Option<usize> {
 }
 
 #[test]
-fn reads_the_least_number_behind_a_sign(rt: HostRuntime) -> Result<(), Fail> {
+fn reads_the_least_number_after_a_sign(rt: HostRuntime) -> Result<(), Fail> {
     let read: [&[u8]; 5] = [
         b"-2147483648",
         b"return -0002147483648",

@@ -99,7 +99,7 @@ fn try_file<R: Print + Files + AllocGlobal, C: Command>(
     println!(rt; "{name}: {held} of {all} programs as expected")
 }
 
-/// Verifies the programs of each file that is named behind the program's name, and says how many are answered as expected.
+/// Verifies the programs of each file that is named after the program's name, and says how many are answered as expected.
 pub fn try_all<R: Print + Files + Env + AllocGlobal, C: Command>(
     rt: &R,
     command: &C,

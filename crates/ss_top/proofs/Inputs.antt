@@ -7,8 +7,8 @@ use Rattle.ss_store_rules.specs.Numbers.{fits}
 use Rattle.ss_machine_typed.specs.Inputs.{IsInput}
 use Rattle.ss_top_words.specs.declared.Command.{Command}
 use Rattle.ss_top_words.specs.declared.Command.TheVariants as command
-use Rattle.ss_top_words.specs.Numbers.{is_digit, number_behind, within, natural, negated, positive, whole}
-use Rattle.ss_top_words.specs.Words.{Reading, Asked, and_number, numbers_behind, most_numbers, with_input, takes, of_file, of_run, asked_by, command_named, complete, first_reading, read_all, asked}
+use Rattle.ss_top_words.specs.Numbers.{is_digit, number_after, within, natural, negated, positive, whole}
+use Rattle.ss_top_words.specs.Words.{Reading, Asked, and_number, numbers_after, most_numbers, with_input, takes, of_file, of_run, asked_by, command_named, complete, first_reading, read_all, asked}
 
 -- ---- numbers of 32 bits
 
@@ -21,7 +21,7 @@ natural_limit true m n limit h = within_limit (nat_le m limit) m n limit refl h
 natural_limit false m n limit h = absurd (let none : None ≡ Some n = h in cc)
 
 number_limit : (limit : ℕ) (bytes : List ℕ) (n : ℕ) → natural limit bytes ≡ Some n → n ≤ limit
-number_limit limit bytes n h = natural_limit (nat_le 1 (length bytes) && nat_le (length bytes) 10 && list_all is_digit bytes) (number_behind 0 bytes) n limit h
+number_limit limit bytes n h = natural_limit (nat_le 1 (length bytes) && nat_le (length bytes) 10 && list_all is_digit bytes) (number_after 0 bytes) n limit h
 
 negative_fits : (n : ℕ) → n ≤ 2 ^ 31 → fits (neg_ℤ (pos n)) ≡ true
 negative_fits zero l = refl
@@ -62,7 +62,7 @@ number_fits None n h g = tt
 number_fits (Some ns) None h g = tt
 number_fits (Some ns) (Some n) h g = push_fits ns n h (g n refl)
 
-numbers_fit : (words : List (List ℕ)) (ns : Option (List ℤ)) → AllFit ns → AllFit (numbers_behind ns words)
+numbers_fit : (words : List (List ℕ)) (ns : Option (List ℤ)) → AllFit ns → AllFit (numbers_after ns words)
 numbers_fit [] ns h = h
 numbers_fit (word ∷ words) ns h = numbers_fit words (and_number ns (whole word)) (number_fits ns (whole word) h (whole_fits word))
 
@@ -90,7 +90,7 @@ with_input_has r file (Some ns) a fit h = has_input (nat_le (length ns) most_num
 
 run_has_input : (r : Reading) (words : List (List ℕ)) (a : Asked) → of_run r words ≡ Some a → IsInput a.input
 run_has_input r [] a h = absurd (let none : None ≡ Some a = h in cc)
-run_has_input r (file ∷ words) a h = with_input_has r file (numbers_behind (Some []) words) a (numbers_fit words (Some []) refl) h
+run_has_input r (file ∷ words) a h = with_input_has r file (numbers_after (Some []) words) a (numbers_fit words (Some []) refl) h
 
 command_has_input : (c : Command) (r : Reading) (a : Asked) → asked_by c r ≡ Some a → IsInput a.input
 command_has_input command.Verify r a h = file_has_input command.Verify r r.positional a h

@@ -172,7 +172,7 @@ never_fails c kind at steps input old new source means safe given h =
     let safe_one : IsSafe h.program = subst IsSafe (sym same) safe in
     subst IsUnfailed h.failed (safe_one.unfailed input given h.admits steps)
 
--- what is said of its run without verification is said of its run behind it
+-- what is said of its run without verification is said of its run after it
 pub safe_says : (l : Limits) (c : CoreTree) (steps : ℕ) (input : List ℤ) (old new : Option (List ℕ)) (source : List ℕ) (st : Status) → Means source c → IsSafe c → IsInput input → Says l steps input old new st command.RunUnverified source → Says l steps input old new st command.Run source
 safe_says l c steps input old new source status.Ended means safe given h = (record { program = c; means = means; safe = safe }, h)
 safe_says l c steps input old new source status.StepsSpent means safe given h = (record { program = c; means = means; safe = safe }, h)

@@ -15,7 +15,7 @@ use std::alloc::Global;
 
 /// Does what the words say. `verify FILE` verifies the program of the file and writes the verdict. `run FILE` verifies it and runs it where
 /// it is verified, and `run FILE --unverified` runs it with all its checks. `expand FILE` writes its core program. Verification searches
-/// as far as `--rounds`, `--splits` and `--instances` say. A run has as many steps as `--steps` says, and the numbers behind FILE are its
+/// as far as `--rounds`, `--splits` and `--instances` say. A run has as many steps as `--steps` says, and the numbers after FILE are its
 /// input.
 pub fn specsharp<F: Files, S: Sink>(
     alloc: Global,

@@ -63,7 +63,7 @@ fn push_escaped(bytes: &mut Vec<u8>, line: &[u8]) -> Result<(), AllocError> {
     Ok(())
 }
 
-// A number, and behind a blank what stands so often: with `\xHH` for a byte.
+// A number, and after a blank what stands so often: with `\xHH` for a byte.
 fn push_repeated(bytes: &mut Vec<u8>, line: &str) -> Result<(), AllocError> {
     let Some((count, text)) = line.split_once(' ') else {
         return Ok(());

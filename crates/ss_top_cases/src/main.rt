@@ -1,5 +1,5 @@
-// The conformance suite, and what is tried and measured beside it. Each word is a file of cases. Behind `obligations` it is a file of programs with what
-// is known of their obligations, or of derivations, and behind `repeat` it says what is repeated. A number says how often, and behind `objects` so
+// The conformance suite, and what is tried and measured beside it. Each word is a file of cases. After `obligations` it is a file of programs with what
+// is known of their obligations, or of derivations, and after `repeat` it says what is repeated. A number says how often, and after `objects` so
 // many objects live as the last number says.
 #![tactic(auto)]
 
@@ -36,7 +36,7 @@ fn task_of(word: &str) -> Option<Task> {
     }
 }
 
-/// What is asked behind a word that says only that.
+/// What is asked after a word that says only that.
 fn asked_behind(asked: Asked, word: &str) -> Option<Asked> {
     if let Some(task) = task_of(word) {
         return Some(Asked { task, ..asked });

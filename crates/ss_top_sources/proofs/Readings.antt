@@ -44,11 +44,11 @@ resolve_gives source ts tree (front.Refused rule at) reads parses h = inr (inr (
   faulty = ap (λ o. option_or o (typed_fault (resolved tree))) h;
 }))
 
--- the first fault of a program that resolves is that of the phases behind
-pub behind_resolve : (tree : ProgramTree) (p : TypedTree) {o : Option Fault} → ResolvesTo tree p → typed_fault p ≡ o → program_fault tree ≡ o
-behind_resolve tree p r h = ap (λ f. option_or f (typed_fault (resolved tree))) r.0 ∙ ap typed_fault r.1 ∙ h
+-- the first fault of a program that resolves is that of the phases after
+pub after_resolve : (tree : ProgramTree) (p : TypedTree) {o : Option Fault} → ResolvesTo tree p → typed_fault p ≡ o → program_fault tree ≡ o
+after_resolve tree p r h = ap (λ f. option_or f (typed_fault (resolved tree))) r.0 ∙ ap typed_fault r.1 ∙ h
 
--- what the phases behind refuse has that fault
+-- what the phases after refuse has that fault
 pub phases_give : (source : List ℕ) (ts : List Token) (tree : ProgramTree) (p : TypedTree) (stop : FrontStop) → HasTokens source (toks ts) → AreProgram (toks ts) tree → ResolvesTo tree p →
     Answers {A = Unit {0}} (typed_fault p) (Err stop) → Gives source (Err stop)
 phases_give source ts tree p front.Memory reads parses r h = tt
@@ -57,5 +57,5 @@ phases_give source ts tree p (front.Refused rule at) reads parses r h = inr (inr
   tree = tree;
   reads = reads;
   parses = parses;
-  faulty = behind_resolve tree p r h;
+  faulty = after_resolve tree p r h;
 }))

@@ -1,4 +1,4 @@
--- The phases behind the grammar, each with its first fault.
+-- The phases after the grammar, each with its first fault.
 use Rattle.std.specs.Prelude.{List, [], ◌∷◌, Option, Some, None}
 use Rattle.std.specs.Option.{option_or}
 use Rattle.ss_ast.specs.Programs.{ProgramTree}

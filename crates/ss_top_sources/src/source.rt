@@ -40,7 +40,7 @@ fn check_phases(alloc: Global, program: &Typed) -> Result<(), FrontStop>
     check_ownership(alloc, program)
 }
 
-// The phases behind names and types.
+// The phases after names and types.
 fn check_typed(
     alloc: Global,
     source: &[u8],
@@ -61,7 +61,7 @@ fn check_typed(
     }
 }
 
-// The phases behind the grammar.
+// The phases after the grammar.
 fn check_program(
     alloc: Global,
     source: &[u8],
@@ -78,7 +78,7 @@ fn check_program(
     }
 }
 
-// The phases behind the tokens.
+// The phases after the tokens.
 fn read_program(alloc: Global, source: &[u8], tokens: Vec<Token>) -> Result<Accepted, FrontStop>
     requires reads { HasTokens source.now (toks tokens.items) }
     ensures { Gives source.now result }

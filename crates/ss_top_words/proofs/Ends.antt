@@ -1,16 +1,16 @@
--- What is behind a word doesn't mend it.
+-- What is after a word doesn't mend it.
 use Rattle.std.proofs.Common.{ℕ, ◌≡◌, ◌≤◌, ◌+◌, ◌-◌, ◌*◌, List, [], ◌∷◌, Bool, true, false, Some, None, map, length, String, string_bytes, slice_index_or, refl, ap, ◌∙◌, subst, arith}
 use Rattle.std.specs.declared.alloc.Global.{Global}
-use Rattle.ss_top_words.specs.Numbers.{number_behind}
-use Rattle.ss_top_words.specs.Words.{Reading, read, read_all, numbers_behind}
+use Rattle.ss_top_words.specs.Numbers.{number_after}
+use Rattle.ss_top_words.specs.Words.{Reading, read, read_all, numbers_after}
 use Rattle.ss_top_words.specs.Views.{IsRead}
 
 -- more digits make no smaller number
-pub number_behind_le : (n : ℕ) (bs : List ℕ) → n ≤ number_behind n bs
-number_behind_le n [] = omega arith
-number_behind_le n (b ∷ bs) = omega (arith, number_behind_le (n * 10 + (b - 48)) bs)
+pub number_after_le : (n : ℕ) (bs : List ℕ) → n ≤ number_after n bs
+number_after_le n [] = omega arith
+number_after_le n (b ∷ bs) = omega (arith, number_after_le (n * 10 + (b - 48)) bs)
 
-pub no_numbers : (words : List (List ℕ)) → numbers_behind None words ≡ None
+pub no_numbers : (words : List (List ℕ)) → numbers_after None words ≡ None
 no_numbers [] = refl
 no_numbers (word ∷ words) = no_numbers words
 

@@ -7,14 +7,14 @@ use Rattle.ss_top_words.specs.declared.Command.{Command}
 use Rattle.ss_top_words.specs.declared.Command.TheVariants as command
 use Rattle.ss_top_words.specs.declared.sketch.Sketch.{Sketch}
 use Rattle.ss_top_words.specs.Numbers.{whole}
-use Rattle.ss_top_words.specs.Words.{Reading, Asked, read, read_all, and_number, numbers_behind, most_numbers, with_input, takes, of_file, of_run, asked_by, complete}
+use Rattle.ss_top_words.specs.Words.{Reading, Asked, read, read_all, and_number, numbers_after, most_numbers, with_input, takes, of_file, of_run, asked_by, complete}
 use Rattle.ss_top_words.specs.Views.{options_of, is_number, IsSketchOf, AsksFor}
 
 no_reading : (words : List (List ℕ)) → read_all None words ≡ None
 no_reading [] = refl
 no_reading (word ∷ words) = no_reading words
 
--- behind a word that can't stand there nothing is read
+-- after a word that can't stand there nothing is read
 pub unsketched : (r : Reading) (rest : List (String Global)) (word : String Global) → word ≡ slice_index_or rest 0 word → 1 ≤ length rest → read r (string_bytes word) ≡ None → read_all (Some r) (map string_bytes rest) ≡ None
 unsketched r [] word e l h = absurd (omega (arith, l))
 unsketched r (x ∷ rest) word e l h = ap (λ o. read_all o (map string_bytes rest)) (ap (λ w. read r (string_bytes w)) (sym e) ∙ h) ∙ no_reading (map string_bytes rest)
@@ -36,12 +36,12 @@ file_alone c r (file ∷ word ∷ words) = grind (arith, common_steps)
 abbrev Counted : List ℤ → List (List ℕ) → Option (List ℤ) → Type 0
 Counted ns words found = ((list_all is_number words ≡ true) × ((ms : List ℤ) × (found ≡ Some ms) × (length ms ≡ length ns + length words))) ⊎ ((list_all is_number words ≡ false) × (found ≡ None))
 
-no_numbers : (words : List (List ℕ)) → numbers_behind None words ≡ None
+no_numbers : (words : List (List ℕ)) → numbers_after None words ≡ None
 no_numbers [] = refl
 no_numbers (word ∷ words) = no_numbers words
 
-counted_next : (word : List ℕ) (words : List (List ℕ)) (others : (ms : List ℤ) → Counted ms words (numbers_behind (Some ms) words)) (ns : List ℤ) (n : Option ℤ) → whole word ≡ n →
-    Counted ns (word ∷ words) (numbers_behind (and_number (Some ns) n) words)
+counted_next : (word : List ℕ) (words : List (List ℕ)) (others : (ms : List ℤ) → Counted ms words (numbers_after (Some ms) words)) (ns : List ℤ) (n : Option ℤ) → whole word ≡ n →
+    Counted ns (word ∷ words) (numbers_after (and_number (Some ns) n) words)
 counted_next word words others ns None e = inr (ap (λ o. is_some o && list_all is_number words) e, no_numbers words)
 counted_next word words others ns (Some n) e =
     let first : list_all is_number (word ∷ words) ≡ list_all is_number words = ap (λ o. is_some o && list_all is_number words) e in
@@ -50,7 +50,7 @@ counted_next word words others ns (Some n) e =
     (λ one. inr (first ∙ one.0, one.1))
     (others (ns ++ n ∷ []))
 
-counted : (words : List (List ℕ)) (ns : List ℤ) → Counted ns words (numbers_behind (Some ns) words)
+counted : (words : List (List ℕ)) (ns : List ℤ) → Counted ns words (numbers_after (Some ns) words)
 counted [] ns = inl (refl, (ns, refl, omega arith))
 counted (word ∷ words) ns = counted_next word words (counted words) ns (whole word) refl
 
@@ -71,7 +71,7 @@ input_found r file words found h = ⊎_elim
 
 file_with_input : (r : Reading) (words : List (List ℕ)) → is_some (of_run r words) ≡ (nat_le 1 (length words) && (nat_le (length words - 1) most_numbers && list_all is_number (drop 1 words)))
 file_with_input r [] = refl
-file_with_input r (file ∷ words) = input_found r file words (numbers_behind (Some []) words) (counted words []) ∙ grind (arith, common_steps)
+file_with_input r (file ∷ words) = input_found r file words (numbers_after (Some []) words) (counted words []) ∙ grind (arith, common_steps)
 
 -- ---- by the command
 

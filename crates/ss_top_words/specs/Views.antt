@@ -64,7 +64,7 @@ IsShort (Some a) = length a.input.items ≤ meaning.most_numbers
 abbrev pub is_number : List ℕ → Bool
 is_number word = is_some (whole word)
 
--- the options, how many words are positional, and whether all behind the first are numbers
+-- the options, how many words are positional, and whether all after the first are numbers
 pub record IsSketchOf (s : Sketch) (r : meaning.Reading) : Type 0 where
   pub options : options_of s.options ≡ r.options
   pub count : s.count ≡ length r.positional

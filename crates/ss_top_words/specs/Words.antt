@@ -33,7 +33,7 @@ default_of Rounds = 2
 default_of Splits = 200000
 default_of Instances = 50000
 
--- ---- the words behind the command
+-- ---- the words after the command
 
 -- What they have said so far beside the positional ones.
 pub record Options : Type 0 where
@@ -44,7 +44,7 @@ pub record Options : Type 0 where
   pub unverified : Bool
   -- the next word is the number of this option
   pub wants : Option NumberOption
-  -- `--` was there, and every word behind it is positional
+  -- `--` was there, and every word after it is positional
   pub ended : Bool
 
 abbrev pub no_options : Options
@@ -178,10 +178,10 @@ and_number None n = None
 and_number (Some ns) None = None
 and_number (Some ns) (Some n) = Some (ns ++ n ∷ [])
 
--- these numbers and those of the words behind them, where each word is one
-abbrev pub numbers_behind : Option (List ℤ) → List (List ℕ) → Option (List ℤ)
-numbers_behind ns [] = ns
-numbers_behind ns (word ∷ words) = numbers_behind (and_number ns (whole word)) words
+-- these numbers and those of the words after them, where each word is one
+abbrev pub numbers_after : Option (List ℤ) → List (List ℕ) → Option (List ℤ)
+numbers_after ns [] = ns
+numbers_after ns (word ∷ words) = numbers_after (and_number ns (whole word)) words
 
 abbrev pub run_command : Bool → Command
 run_command unverified = if unverified then command.RunUnverified else command.Run
@@ -219,7 +219,7 @@ of_file c r words = None
 -- a file and numbers
 abbrev pub of_run : Reading → List (List ℕ) → Option Asked
 of_run r [] = None
-of_run r (file ∷ words) = with_input r file (numbers_behind (Some []) words)
+of_run r (file ∷ words) = with_input r file (numbers_after (Some []) words)
 
 abbrev pub asked_by : Command → Reading → Option Asked
 asked_by command.Verify r = of_file command.Verify r r.positional

@@ -143,8 +143,8 @@ fn asked_by<'w>(
     }
 }
 
-// What the words behind a command ask for.
-fn read_behind(
+// What the words after a command ask for.
+fn read_after(
     alloc: Global,
     command: Command,
     words: &[String],
@@ -159,7 +159,7 @@ fn read_behind(
     asked_by(alloc, command, &reading)
 }
 
-/// What the words behind the program's name ask for, or nothing where they aren't those of a command. An error is want of memory, and
+/// What the words after the program's name ask for, or nothing where they aren't those of a command. An error is want of memory, and
 /// comes only where they are.
 pub fn read_words(alloc: Global, words: &[String]) -> Result<Option<Asked<'_>>, AllocError>
     ensures memory { IsErr result → is_some (meaning.asked (map string_bytes words.now)) ≡ true }
@@ -175,5 +175,5 @@ pub fn read_words(alloc: Global, words: &[String]) -> Result<Option<Asked<'_>>, 
     if !are_asked(command, others) {
         return Ok(None);
     }
-    read_behind(alloc, command, others)
+    read_after(alloc, command, others)
 }

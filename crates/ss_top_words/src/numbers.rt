@@ -25,9 +25,9 @@ fn are_digits(bytes: &[u8]) -> bool
 }
 
 // The number that the digits write, where it is at most the limit.
-#[tactic(auto, using(crate::proofs::Ends::number_behind_le))]
+#[tactic(auto, using(crate::proofs::Ends::number_after_le))]
 fn number_within(limit: u32, digits: &[u8]) -> Option<u64>
-    ensures value { result ≡ numbers.within limit (numbers.number_behind 0 digits.now) }
+    ensures value { result ≡ numbers.within limit (numbers.number_after 0 digits.now) }
     ensures within { IfSome result (λ n. n ≤ limit) }
 {
     let mut number = 0u64;
@@ -73,7 +73,7 @@ pub fn whole(bytes: &[u8]) -> Option<i32>
 // Adds the numbers of the words; false where one is none.
 #[tactic(auto, using(crate::proofs::Ends::no_numbers))]
 pub fn push_numbers(words: &[&str], input: &mut Vec<i32>) -> Result<bool, AllocError>
-    ensures { IfOk result (λ all. IsPushed all input.new.items (meaning.numbers_behind (Some input.old.items) (texts_of words.now))) }
+    ensures { IfOk result (λ all. IsPushed all input.new.items (meaning.numbers_after (Some input.old.items) (texts_of words.now))) }
 {
     let mut rest = words;
     while let [word, behind @ ..] = rest {

@@ -1,4 +1,4 @@
-// The options among the words behind the command.
+// The options among the words after the command.
 ghost use Rattle.std.specs.Prelude.{◌≡◌, ◌≤◌, is_some};
 ghost use Rattle.ss_top_words.specs.Views.{options_of, taken_of};
 ghost use Rattle.ss_top_words.specs.declared.number_options.NumberOption.TheVariants.{Steps};

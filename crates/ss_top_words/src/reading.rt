@@ -1,4 +1,4 @@
-// The words behind the command.
+// The words after the command.
 ghost use Rattle.std.specs.Prelude.{◌≡◌, Some, map, string_bytes, IfOk};
 ghost use Rattle.ss_top_words.specs.Views.{reading_of, IsRead};
 ghost use Rattle.ss_top_words.specs.Words as meaning;

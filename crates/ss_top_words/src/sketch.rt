@@ -7,7 +7,7 @@ use crate::numbers::whole;
 use crate::options::{Options, Taken};
 use crate::{Command, MOST_NUMBERS};
 
-// The options, how many words are positional, and whether all behind the first are numbers.
+// The options, how many words are positional, and whether all after the first are numbers.
 #[derive(Clone, Copy, Debug, PartialEq, Eq)]
 pub struct Sketch {
     pub options: Options,
@@ -51,7 +51,7 @@ impl Sketch {
     }
 }
 
-// The words behind the command, one after the other; nothing where one can't stand there.
+// The words after the command, one after the other; nothing where one can't stand there.
 fn sketched(words: &[String]) -> Option<Sketch>
     ensures { IsSketched result (meaning.read_all (Some meaning.first_reading) (map string_bytes words.now)) }
 {
@@ -94,7 +94,7 @@ impl Sketch {
     }
 }
 
-// Whether the words behind a command are those of one.
+// Whether the words after a command are those of one.
 pub fn are_asked(command: Command, words: &[String]) -> bool
     ensures { result ≡ is_some (meaning.complete (Some command) (meaning.read_all (Some meaning.first_reading) (map string_bytes words.now))) }
 {

@@ -12,15 +12,15 @@ use Rattle.ss_typed.specs.View.{Behind, grouped, expr_step, link_step, step_step
 abbrev pub nothing : ExprTree
 nothing = NullOf no_place
 
-abbrev pub link_behind : TypedLink → Behind
-link_behind = fold-TypedLink ExprTree Behind Behind expr_step link_step step_step
+abbrev pub link_after : TypedLink → Behind
+link_after = fold-TypedLink ExprTree Behind Behind expr_step link_step step_step
 
-abbrev pub step_behind : TypedStep → Behind
-step_behind = fold-TypedStep ExprTree Behind Behind expr_step link_step step_step
+abbrev pub step_after : TypedStep → Behind
+step_after = fold-TypedStep ExprTree Behind Behind expr_step link_step step_step
 
 -- the operand with these links, and the beginning of a path with these steps
 abbrev pub linked : Place → ExprTree → List TypedLink → ExprTree
-linked p e links = grouped p e (map link_behind links)
+linked p e links = grouped p e (map link_after links)
 
 abbrev pub stepped : Place → ExprTree → List TypedStep → ExprTree
-stepped p e steps = grouped p e (map step_behind steps)
+stepped p e steps = grouped p e (map step_after steps)

@@ -39,7 +39,7 @@ pub struct TypedFlags {
     pub no_default_contract: bool,
 }
 
-/// `: base(a, b)` behind the parameters of a constructor, with the place of `base`.
+/// `: base(a, b)` after the parameters of a constructor, with the place of `base`.
 #[derive(Drop)]
 pub struct TypedBase {
     pub place: Place,

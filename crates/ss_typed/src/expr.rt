@@ -47,7 +47,7 @@ pub enum TypedExpr {
     Base(Place, usize, Option<Ty>, Vec<TypedExpr>),
 }
 
-/// What stands behind an operand in a chain.
+/// What stands after an operand in a chain.
 #[cycle(expr)]
 #[derive(Drop)]
 pub enum TypedLink {
@@ -56,7 +56,7 @@ pub enum TypedLink {
     As(ClassId),
 }
 
-/// What stands behind the beginning of a path.
+/// What stands after the beginning of a path.
 #[cycle(expr)]
 #[derive(Drop)]
 pub enum TypedStep {

@@ -5,7 +5,7 @@ ghost use Rattle.ss_core.specs.declared.names.Place.{Place};
 ghost use Rattle.ss_typed.specs.Tree.{ExprTree, arguments};
 ghost use Rattle.ss_typed.specs.View.{expr};
 ghost use Rattle.ss_typed.specs.Shapes as shapes;
-ghost use Rattle.ss_typed.specs.Parts.{link_behind, linked, step_behind, stepped};
+ghost use Rattle.ss_typed.specs.Parts.{link_after, linked, step_after, stepped};
 
 use crate::expr::{TypedExpr, TypedLink, TypedStep};
 
@@ -69,7 +69,7 @@ fn links_mention_this(first: bool, links: &[TypedLink]) -> bool
 
 #[cycle(mentions)]
 fn link_mentions_this(first: bool, link: &TypedLink) -> bool
-    ensures { (p : Place) → (before : ExprTree) → shapes.mentions_this before ≡ first → shapes.mentions_this (link_behind link.now p before) ≡ result }
+    ensures { (p : Place) → (before : ExprTree) → shapes.mentions_this before ≡ first → shapes.mentions_this (link_after link.now p before) ≡ result }
 {
     match link {
         TypedLink::Operation(_, e) => first || mentions_this(e),
@@ -91,7 +91,7 @@ fn steps_mention_this(first: bool, steps: &[TypedStep]) -> bool
 
 #[cycle(mentions)]
 fn step_mentions_this(first: bool, step: &TypedStep) -> bool
-    ensures { (p : Place) → (before : ExprTree) → shapes.mentions_this before ≡ first → shapes.mentions_this (step_behind step.now p before) ≡ result }
+    ensures { (p : Place) → (before : ExprTree) → shapes.mentions_this before ≡ first → shapes.mentions_this (step_after step.now p before) ≡ result }
 {
     match step {
         TypedStep::Element(e) => first || mentions_this(e),

@@ -5,15 +5,15 @@ ghost use Rattle.ss_core.specs.declared.names.Place.{Place};
 ghost use Rattle.ss_typed.specs.Tree.{ExprTree};
 ghost use Rattle.ss_typed.specs.View.{expr};
 ghost use Rattle.ss_typed.specs.Types as types;
-ghost use Rattle.ss_typed.specs.Parts.{link_behind, step_behind, stepped};
+ghost use Rattle.ss_typed.specs.Parts.{link_after, step_after, stepped};
 
 use crate::expr::{TypedExpr, TypedLink, TypedStep};
 use crate::types::{class_type, element_of, operation_type};
 use ss_core::Ty;
 
-/// The type of an operand with this link behind it.
+/// The type of an operand with this link after it.
 pub fn link_type(link: &TypedLink) -> Ty
-    ensures { (p : Place) → (before : ExprTree) → types.type_of (link_behind link.now p before) ≡ Some result }
+    ensures { (p : Place) → (before : ExprTree) → types.type_of (link_after link.now p before) ≡ Some result }
 {
     match link {
         TypedLink::Operation(operator, _) => operation_type(*operator),
@@ -22,9 +22,9 @@ pub fn link_type(link: &TypedLink) -> Ty
     }
 }
 
-/// The type of what is of this type with this step behind it.
+/// The type of what is of this type with this step after it.
 pub fn step_type(before: Option<Ty>, step: &TypedStep) -> Option<Ty>
-    ensures { (p : Place) → (e : ExprTree) → types.type_of e ≡ before → types.type_of (step_behind step.now p e) ≡ result }
+    ensures { (p : Place) → (e : ExprTree) → types.type_of e ≡ before → types.type_of (step_after step.now p e) ≡ result }
 {
     match step {
         TypedStep::Field(_, ty) => Some(*ty),

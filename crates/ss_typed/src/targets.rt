@@ -4,7 +4,7 @@ ghost use Rattle.std.specs.Prelude.{◌≡◌, ◌<◌, length, map, option_map}
 ghost use Rattle.ss_core.specs.declared.names.Place.{Place as PlaceValue};
 ghost use Rattle.ss_typed.specs.View.{expr, grouped};
 ghost use Rattle.ss_typed.specs.Shapes.{local_of, own_field};
-ghost use Rattle.ss_typed.specs.Parts.{step_behind};
+ghost use Rattle.ss_typed.specs.Parts.{step_after};
 
 use crate::expr::{TypedExpr, TypedStep};
 use crate::shapes::is_this;
@@ -97,18 +97,18 @@ pub fn own_field(e: &TypedExpr) -> Option<FieldId>
 // The same of a path with at least one step: a path with more is no field of `this`.
 fn field_along(first: &TypedExpr, steps: &[TypedStep]) -> Option<FieldId>
     requires { 0 < length steps.now }
-    ensures { (p : PlaceValue) → option_map (λ f. f.0) result ≡ own_field (grouped p (expr first.now) (map step_behind steps.now)) }
+    ensures { (p : PlaceValue) → option_map (λ f. f.0) result ≡ own_field (grouped p (expr first.now) (map step_after steps.now)) }
 {
     if steps.len() == 1 {
-        field_behind(first, &steps[0])
+        field_after(first, &steps[0])
     } else {
         None
     }
 }
 
 // The same of a path with this one step.
-fn field_behind(first: &TypedExpr, step: &TypedStep) -> Option<FieldId>
-    ensures { (p : PlaceValue) → option_map (λ f. f.0) result ≡ own_field (step_behind step.now p (expr first.now)) }
+fn field_after(first: &TypedExpr, step: &TypedStep) -> Option<FieldId>
+    ensures { (p : PlaceValue) → option_map (λ f. f.0) result ≡ own_field (step_after step.now p (expr first.now)) }
 {
     match step {
         TypedStep::Field(field, _) => { if is_this(first) { Some(*field) } else { None } }

@@ -40,7 +40,7 @@ cleared s first list locals known body fine is_first no_list no_locals is_known 
       before = take_all (length s.trail.items) s.trail.items (omega arith);
     }
 
--- and a step behind it
+-- and a step after it
 pub begins_on : (s t u : Builder) (f : Forms → Position) (g : Forms → Position → Position) → Begins s t f → Becomes t u (λ b. g b (position_at b t)) → Begins s u (λ b. g b (f b))
 begins_on s t u f g p q = record {
   fine = q.fine;

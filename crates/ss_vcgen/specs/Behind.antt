@@ -75,7 +75,7 @@ branched w e one other k =
     let second = behind_all w other (second_side (When (evaluated.next.truths + 1)) (known_tested e false k.known) evaluated first) in
     join w known_met first second
 
--- from the test of a loop to behind it: k is at the test
+-- from the test of a loop to after it: k is at the test
 abbrev pub gone_round : Walk → Place → List ExprTree → ExprTree → CodeTree → List ExposedTree → Position → Position
 gone_round w at asked e body exposes k =
     let evaluated = evaluate w e k in

@@ -26,7 +26,7 @@ blank b s n = record {
   listed = [];
 }
 
--- The old builder has become the new one, which stands for this position. The whole trail of before stays, and the premises begin behind it.
+-- The old builder has become the new one, which stands for this position. The whole trail of before stays, and the premises begin after it.
 pub record Begins (old new : Builder) (says : Forms → Position) : Type 0 where
   pub fine : IsFine new
   pub grown : IsGrown old.bank new.bank
@@ -55,6 +55,6 @@ entry_formulas w ts k = good k.store ∷ argument_types_from w k.store 0 ts k.lo
 abbrev pub entry_known : Walk → List Ty → Position → Position
 entry_known w ts k = assume_all (entry_formulas w ts k) k
 
--- from a position of which nothing is known to behind the code
+-- from a position of which nothing is known to after the code
 abbrev pub filled : Walk → Position → Position
 filled w k = behind_all w w.body.code (entry_known w (argument_types w.body) (entered w.body k))

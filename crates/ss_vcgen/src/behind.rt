@@ -18,7 +18,7 @@ use ss_vcgen_builder::{Builder, Walk};
 use ss_vcgen_statements::{FieldTarget, pack, unpack};
 use std::alloc::AllocError;
 
-// Goes behind a statement.
+// Goes after a statement.
 #[cycle(statements)]
 fn behind(
     builder: &mut Builder,
@@ -57,7 +57,7 @@ fn behind(
         }
         Stmt::Loop(l) => {
             enter_loop(builder, walk, stmt, l.place, &l.invariants, &l.exposes)?;
-            behind_loop(builder, walk, l, watch)
+            after_loop(builder, walk, l, watch)
         }
         Stmt::Unpack(at, x, class) => unpack(builder, walk, *at, *x, *class),
         Stmt::Pack(at, x, class) => pack(builder, walk, *at, *x, *class),
@@ -69,9 +69,9 @@ fn behind(
     }
 }
 
-// Goes from the head of a loop to behind it.
+// Goes from the head of a loop to after it.
 #[cycle(statements)]
-fn behind_loop(
+fn after_loop(
     builder: &mut Builder,
     walk: &Walk<'_>,
     l: &Loop,
@@ -87,7 +87,7 @@ fn behind_loop(
     Ok(())
 }
 
-// Goes from the test of a loop to behind it, where the test is reached.
+// Goes from the test of a loop to after it, where the test is reached.
 #[cycle(statements)]
 fn go_if_reached(
     builder: &mut Builder,
@@ -107,7 +107,7 @@ fn go_if_reached(
     }
 }
 
-// Goes from the test of a loop to behind it.
+// Goes from the test of a loop to after it.
 #[cycle(statements)]
 fn go_round(
     builder: &mut Builder,
@@ -127,7 +127,7 @@ fn go_round(
     Ok(())
 }
 
-/// Goes behind statements, one after the other; those that can't be reached tell nothing.
+/// Goes after statements, one after the other; those that can't be reached tell nothing.
 #[cycle(statements)]
 pub(crate) fn behind_all(
     builder: &mut Builder,

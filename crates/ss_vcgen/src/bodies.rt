@@ -165,7 +165,7 @@ fn know_entry(builder: &mut Builder, walk: &Walk<'_>, types: &[Ty]) -> Result<()
     Ok(())
 }
 
-// Goes from a position of which nothing is known to behind the code.
+// Goes from a position of which nothing is known to after the code.
 fn fill(builder: &mut Builder, walk: &Walk<'_>, watch: &mut Watch) -> Result<(), AllocError>
     requires fine { IsFine builder.old }
     requires walk { IsWalk builder.old.bank walk.now }

@@ -45,7 +45,7 @@ fn place_of(stmt: &Stmt) -> Place
     }
 }
 
-// What is known of null behind a statement that is neither an `if`, a loop nor a return.
+// What is known of null after a statement that is neither an `if`, a loop nor a return.
 fn known_behind(builder: &Builder, walk: &Walk<'_>, stmt: &Stmt) -> Result<Known, AllocError>
     requires limits { IsWithinLimits (view.classes walk.now.core.now.classes) }
     requires types { walk.now.types.now ≡ local_types (view.body walk.now.body.now) }

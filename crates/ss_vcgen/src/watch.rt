@@ -48,7 +48,7 @@ impl Watch {
         listed
     }
 
-    /// Looks at the position before a statement, or behind the last one of a list. What was listed since the last look belongs to the
+    /// Looks at the position before a statement, or after the last one of a list. What was listed since the last look belongs to the
     /// position where that was.
     pub(crate) fn see(&mut self, builder: &Builder) -> Result<(), AllocError> {
         if self.found.len() >= self.numbers.len() {

@@ -56,7 +56,7 @@ stays_is asks_ready s ty.Null before now = append-nil (is_of_type asks_ready s t
 stays_is asks_ready s (ty.Ref t non_null) before now = refl
 
 module _ (w : Walk) (s : Term) where
-  -- ---- behind a loop's head
+  -- ---- after a loop's head
 
   none_before : (x : ℕ) (ts : List Ty) (news : List (Option Term)) → types_from w s x ts [] news ≡ []
   none_before x [] news = refl

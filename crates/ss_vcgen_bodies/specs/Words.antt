@@ -23,7 +23,7 @@ use Rattle.ss_vcgen_heaps.specs.Obligations.{classes_of, arguments_at, evaluate_
 abbrev pub other_side : Walk → ExprTree → Position → Position
 other_side w e k = let evaluated = evaluate w e k in record evaluated { guard = When (evaluated.next.truths + 1); known = known_tested e false k.known }
 
--- behind a loop with this test: where that is the literal `true`, nothing is reached
+-- after a loop with this test: where that is the literal `true`, nothing is reached
 abbrev pub exit_side : ExprTree → Position → Position
 exit_side e k = record k { guard = if is_literal_true e then Never else k.guard }
 

@@ -100,7 +100,7 @@ pub fn behind(alloc: Global, first: TermId, rest: &[TermId]) -> Result<Vec<TermI
     Ok(all)
 }
 
-// Arguments behind a receiver.
+// Arguments after a receiver.
 fn settle_with(
     builder: &mut Builder,
     walk: &Walk<'_>,

@@ -1,4 +1,4 @@
-// Calls: the conditions at entry, and what is known behind.
+// Calls: the conditions at entry, and what is known after.
 
 ghost use Rattle.std.specs.Prelude.{◌≡◌, [], ◌∷◌, ◌++◌, option_map, IfOk, OnOk};
 ghost use Rattle.ss_core.specs.View.{classes, expr, exprs, callee_tree};
@@ -292,7 +292,7 @@ fn assume_promises(
     Ok(())
 }
 
-/// Behind a call: a new store, and a new constant for the result.
+/// After a call: a new store, and a new constant for the result.
 pub fn returned(
     builder: &mut Builder,
     walk: &Walk<'_>,
@@ -430,7 +430,7 @@ fn copied(builder: &mut Builder, arguments: &[TermId]) -> Result<Vec<TermId>, Al
 }
 
 // The term of `this` and then these.
-fn behind_this(builder: &mut Builder, arguments: &[TermId]) -> Result<Vec<TermId>, AllocError>
+fn after_this(builder: &mut Builder, arguments: &[TermId]) -> Result<Vec<TermId>, AllocError>
     requires fine { IsFine builder.old }
     requires arguments { HasTerms builder.old.bank arguments.now }
     ensures at { IfOk result (λ v. AreOnes builder.new.bank v.items (λ b. One (position.local_term 0 (position_at b builder.old)) ∷ ones_at b arguments.now)) }
@@ -457,8 +457,8 @@ fn with_this(
     match callee {
         Callee::Dispatched(_, _, _) => copied(builder, arguments),
         Callee::Static(_) => copied(builder, arguments),
-        Callee::Base(_) => behind_this(builder, arguments),
-        Callee::Constructor(_) => behind_this(builder, arguments),
+        Callee::Base(_) => after_this(builder, arguments),
+        Callee::Constructor(_) => after_this(builder, arguments),
     }
 }
 

@@ -169,7 +169,7 @@ fn turn(
     }
 }
 
-/// Goes behind a loop, from the end of its body: the spot is behind it.
+/// Goes after a loop, from the end of its body: the spot is after it.
 pub fn leave_loop(
     builder: &mut Builder,
     walk: &Walk<'_>,

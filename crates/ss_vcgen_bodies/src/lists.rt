@@ -6,7 +6,7 @@ use ss_core::Exposed;
 use ss_terms::{FormulaId, TermId};
 use std::alloc::{AllocError, Global};
 
-// What stands behind the one with this number.
+// What stands after the one with this number.
 pub(crate) fn behind(exposes: &[Exposed], i: usize) -> &[Exposed]
     requires { i < length exposes.now }
     ensures { result.now ≡ drop (i + 1) exposes.now }
@@ -29,7 +29,7 @@ pub(crate) fn first_terms(
     }
 }
 
-// These, with one before and one behind.
+// These, with one before and one after.
 pub(crate) fn between(
     alloc: Global,
     first: FormulaId,

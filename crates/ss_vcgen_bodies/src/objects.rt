@@ -127,7 +127,7 @@ fn with_ready(builder: &mut Builder, delayed: bool, o: TermId) -> Result<(), All
     }
 }
 
-// The object behind a constructor that is there.
+// The object after a constructor that is there.
 fn constructed_by(
     builder: &mut Builder,
     walk: &Walk<'_>,
@@ -153,7 +153,7 @@ fn constructed_by(
     Ok(())
 }
 
-// The object behind its constructor.
+// The object after its constructor.
 fn constructed(
     builder: &mut Builder,
     walk: &Walk<'_>,

@@ -55,7 +55,7 @@ fn settle_result(
     }
 }
 
-// The conditions at exit and the frame condition are checked, and nothing is reached behind.
+// The conditions at exit and the frame condition are checked, and nothing is reached after.
 fn leave(
     builder: &mut Builder,
     walk: &Walk<'_>,

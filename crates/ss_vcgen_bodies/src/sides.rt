@@ -65,7 +65,7 @@ pub fn enter_side(builder: &mut Builder, walk: &Walk<'_>, e: &Expr) -> Result<Sp
     Ok(other)
 }
 
-/// The spot behind a loop: where its test is the literal `true`, that isn't reached.
+/// The spot after a loop: where its test is the literal `true`, that isn't reached.
 pub fn exit_spot(spot: Spot, e: &Expr) -> Spot
     ensures { (a : Forms) (says : Forms → position.Position) → IsSpot a spot says → IsSpot a result (λ b. exit_side (expr e.now) (says b)) }
 {

@@ -261,7 +261,7 @@ pub second_side_spot : (a : Forms) (p : Spot) (says : Forms → Position) (g : G
     at_spot b (record p { guard = g; known = known }) k ≡ spec.second_side (guard_of g) (known_of known) (says b) k
 second_side_spot a p says g known h b grown k = ap (λ (l : Position). spec.second_side (guard_of g) (known_of known) l k) (h.is b grown)
 
--- what is behind both sides tells only that of the first
+-- what is after both sides tells only that of the first
 join_from_spot : (b : Forms) (p : Spot) (w : spec.Walk) (meet : NonNull.Known → NonNull.Known → NonNull.Known) (g h : spec.Guard) (k l : Position) → at_spot b p l ≡ l → spec.join_from g h w meet (at_spot b p k) k ≡ spec.join_from g h w meet l k
 join_from_spot b p w meet spec.Never h k l e = refl
 join_from_spot b p w meet spec.Always spec.Never k l e = ap (λ (m : Position). record k { locals = m.locals; store = m.store; guard = m.guard; known = m.known }) e

@@ -117,7 +117,7 @@ there spec.Never f = or_of []
 abbrev pub listing : spec.Walk → Kind → Place → Formula → spec.Position → spec.Position
 listing w kind at goal k = record k { listed = k.listed ++ record { premises = k.premises; goal = goal; kind = kind; place = at; body = w.number } ∷ [] }
 
--- one local of two sides, and behind it
+-- one local of two sides, and after it
 abbrev pub join_local : spec.Guard → spec.Guard → Sort → Option tree.Term → Option tree.Term → spec.Position → Option tree.Term × spec.Position
 join_local g h s (Some x) (Some y) k = (Some (spec.joined_term s x y k), spec.join_term g h s x y k)
 join_local g h s a b k = (None, k)

@@ -117,7 +117,7 @@ impl Builder {
         }
     }
 
-    // The value of a local behind both sides; one without a value on one side has none.
+    // The value of a local after both sides; one without a value on one side has none.
     fn join_local(
         &mut self,
         first: Guard,
@@ -256,7 +256,7 @@ impl Builder {
         self.meet_known(&mut first.known)
     }
 
-    /// Goes behind both sides, from the end of the second: this spot is the end of the first.
+    /// Goes after both sides, from the end of the second: this spot is the end of the first.
     pub fn join(&mut self, walk: &Walk, first: Spot) -> Result<(), AllocError>
         requires fine { IsFine self.old }
         requires walk { IsWalk self.old.bank walk.now }

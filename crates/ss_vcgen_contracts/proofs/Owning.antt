@@ -19,29 +19,29 @@ use Rattle.ss_vcgen_contracts.specs.Views.{ones_at}
 
 -- ---- captured arguments, one after the other
 
--- what stands behind the first i parameters
-abbrev pub captured_behind : List Local → List TermId → ℕ → List TermId
-captured_behind params ts i = captured_among (map view.local_of (drop i params)) (drop i ts)
+-- what stands after the first i parameters
+abbrev pub captured_after : List Local → List TermId → ℕ → List TermId
+captured_after params ts i = captured_among (map view.local_of (drop i params)) (drop i ts)
 
 abbrev captured_if : Bool → TermId → List TermId → List TermId
 captured_if taken t ts = if taken then t ∷ ts else ts
 
-behind_at : (params : List Local) (ts : List TermId) (i : ℕ) (p : Local) (t : TermId) → i < length params → i < length ts → captured_behind params ts i ≡ captured_if (get_or params i p).captured (get_or ts i t) (captured_behind params ts (i + 1))
-behind_at params ts i p t l m = ap (λ ps. captured_among (map view.local_of ps) (drop i ts)) (drop_more params i p l) ∙ ap (captured_among (map view.local_of (get_or params i p ∷ drop (i + 1) params))) (drop_more ts i t m)
+after_at : (params : List Local) (ts : List TermId) (i : ℕ) (p : Local) (t : TermId) → i < length params → i < length ts → captured_after params ts i ≡ captured_if (get_or params i p).captured (get_or ts i t) (captured_after params ts (i + 1))
+after_at params ts i p t l m = ap (λ ps. captured_among (map view.local_of ps) (drop i ts)) (drop_more params i p l) ∙ ap (captured_among (map view.local_of (get_or params i p ∷ drop (i + 1) params))) (drop_more ts i t m)
 
-pub captured_more : (params : List Local) (ts : List TermId) (i : ℕ) (p : Local) (t : TermId) (before whole : List TermId) → i < length params → i < length ts → (get_or params i p).captured ≡ true → before ++ captured_behind params ts i ≡ whole →
-    (before ++ get_or ts i t ∷ []) ++ captured_behind params ts (i + 1) ≡ whole
+pub captured_more : (params : List Local) (ts : List TermId) (i : ℕ) (p : Local) (t : TermId) (before whole : List TermId) → i < length params → i < length ts → (get_or params i p).captured ≡ true → before ++ captured_after params ts i ≡ whole →
+    (before ++ get_or ts i t ∷ []) ++ captured_after params ts (i + 1) ≡ whole
 captured_more params ts i p t before whole l m marked is =
-    append_assoc before (get_or ts i t ∷ []) (captured_behind params ts (i + 1))
-    ∙ ap (λ b. before ++ captured_if b (get_or ts i t) (captured_behind params ts (i + 1))) (sym marked)
-    ∙ ap (λ r. before ++ r) (sym (behind_at params ts i p t l m))
+    append_assoc before (get_or ts i t ∷ []) (captured_after params ts (i + 1))
+    ∙ ap (λ b. before ++ captured_if b (get_or ts i t) (captured_after params ts (i + 1))) (sym marked)
+    ∙ ap (λ r. before ++ r) (sym (after_at params ts i p t l m))
     ∙ is
 
-pub captured_same : (params : List Local) (ts : List TermId) (i : ℕ) (p : Local) (t : TermId) (before whole : List TermId) → i < length params → i < length ts → (get_or params i p).captured ≡ false → before ++ captured_behind params ts i ≡ whole →
-    before ++ captured_behind params ts (i + 1) ≡ whole
+pub captured_same : (params : List Local) (ts : List TermId) (i : ℕ) (p : Local) (t : TermId) (before whole : List TermId) → i < length params → i < length ts → (get_or params i p).captured ≡ false → before ++ captured_after params ts i ≡ whole →
+    before ++ captured_after params ts (i + 1) ≡ whole
 captured_same params ts i p t before whole l m unmarked is =
-    ap (λ b. before ++ captured_if b (get_or ts i t) (captured_behind params ts (i + 1))) (sym unmarked)
-    ∙ ap (λ r. before ++ r) (sym (behind_at params ts i p t l m))
+    ap (λ b. before ++ captured_if b (get_or ts i t) (captured_after params ts (i + 1))) (sym unmarked)
+    ∙ ap (λ r. before ++ r) (sym (after_at params ts i p t l m))
     ∙ is
 
 -- ---- and what they stand for
@@ -55,15 +55,15 @@ captured_at b [] ts = refl
 captured_at b (p ∷ ps) [] = refl
 captured_at b (p ∷ ps) (t ∷ ts) = same_if b p.captured t (captured_among ps ts) (heaps.captured_terms ps (ones_at b ts)) (captured_at b ps ts)
 
-pub ones_behind : (b : Forms) (n : ℕ) (ts : List TermId) → ones_at b (drop n ts) ≡ drop n (ones_at b ts)
-ones_behind b zero ts = refl
-ones_behind b (suc n) [] = refl
-ones_behind b (suc n) (t ∷ ts) = ones_behind b n ts
+pub ones_after : (b : Forms) (n : ℕ) (ts : List TermId) → ones_at b (drop n ts) ≡ drop n (ones_at b ts)
+ones_after b zero ts = refl
+ones_after b (suc n) [] = refl
+ones_after b (suc n) (t ∷ ts) = ones_after b n ts
 
-has_behind : (b : Forms) (n : ℕ) (ts : List TermId) → HasTerms b ts → HasTerms b (drop n ts)
-has_behind b zero ts h = h
-has_behind b (suc n) [] h = tt
-has_behind b (suc n) (t ∷ ts) h = has_behind b n ts h.1
+has_after : (b : Forms) (n : ℕ) (ts : List TermId) → HasTerms b ts → HasTerms b (drop n ts)
+has_after b zero ts h = h
+has_after b (suc n) [] h = tt
+has_after b (suc n) (t ∷ ts) h = has_after b n ts h.1
 
 has_if : (b : Forms) (taken : Bool) (t : TermId) (ts : List TermId) → HasTerm b t → HasTerms b ts → HasTerms b (captured_if taken t ts)
 has_if b true t ts h k = (h, k)
@@ -74,11 +74,11 @@ has_captured b [] ts h = tt
 has_captured b (p ∷ ps) [] h = tt
 has_captured b (p ∷ ps) (t ∷ ts) h = has_if b p.captured t (captured_among ps ts) h.0 (has_captured b ps ts h.1)
 
-pub has_captured_behind : (b : Forms) (n : ℕ) (ps : List LocalTree) (ts : List TermId) → HasTerms b ts → HasTerms b (captured_among ps (drop n ts))
-has_captured_behind b n ps ts h = has_captured b ps (drop n ts) (has_behind b n ts h)
+pub has_captured_after : (b : Forms) (n : ℕ) (ps : List LocalTree) (ts : List TermId) → HasTerms b ts → HasTerms b (captured_among ps (drop n ts))
+has_captured_after b n ps ts h = has_captured b ps (drop n ts) (has_after b n ts h)
 
 pub captured_of_body : (b : Forms) (n : ℕ) (ps : List LocalTree) (ts : List TermId) → terms_at b (captured_among ps (drop n ts)) ≡ heaps.captured_terms ps (drop n (ones_at b ts))
-captured_of_body b n ps ts = captured_at b ps (drop n ts) ∙ ap (heaps.captured_terms ps) (ones_behind b n ts)
+captured_of_body b n ps ts = captured_at b ps (drop n ts) ∙ ap (heaps.captured_terms ps) (ones_after b n ts)
 
 -- ---- an object at the class and those above, where i of 64 steps are made
 

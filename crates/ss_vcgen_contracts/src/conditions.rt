@@ -167,7 +167,7 @@ pub fn entry_conditions(
     Ok(made)
 }
 
-/// The conditions at exit, behind a run with this result.
+/// The conditions at exit, after a run with this result.
 pub fn exit_conditions(
     alloc: Global,
     bank: &mut Bank,

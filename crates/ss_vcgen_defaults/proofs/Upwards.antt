@@ -42,7 +42,7 @@ if_front : (w : Bool) (s : Slot) (a b : List Slot) → (if w then s ∷ (a ++ b)
 if_front true s a b = refl
 if_front false s a b = refl
 
--- the fields of a class stand before those of the classes behind it
+-- the fields of a class stand before those of the classes after it
 slots_of_class : (cs : List ClassTree) (t n f : ℕ) (fs : List FieldTree) (rest : List DeclaredField) → slots_upto cs t f (fields_of_class n fs ++ rest) ≡ slots_if (sub cs t n) f fs ++ slots_upto cs t (f + length fs) rest
 slots_of_class cs t n f [] rest = let same : f ≡ f + 0 = omega arith in ap (λ k. slots_upto cs t k rest) same
 slots_of_class cs t n f (d ∷ ds) rest =

@@ -23,7 +23,7 @@ slot f d = record { field = f; sort = sort_of_type d.ty }
 abbrev pub slot_of : Held → Slot
 slot_of h = record { field = h.field; sort = h.sort }
 
--- behind others, where it is wanted
+-- after others, where it is wanted
 abbrev pub with_slot : Bool → Slot → List Slot → List Slot
 with_slot true s l = l ++ s ∷ []
 with_slot false s l = l

@@ -54,7 +54,7 @@ fn add_field(
     }
 }
 
-// Adds the fields of the class, of which the first has this number, where they are wanted. The result is the number behind the last.
+// Adds the fields of the class, of which the first has this number, where they are wanted. The result is the number after the last.
 fn add_fields(
     list: &mut Vec<Held>,
     wanted: bool,

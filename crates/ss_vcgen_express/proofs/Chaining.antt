@@ -62,7 +62,7 @@ all_parts a x fs is h = record { has = rw is at h; are = λ b k. rw is (sym (lis
 pub any_parts : (a : Forms) (x : Meant) (fs : Vec FormulaId Global) → x ≡ meant.Any fs → HasMeant a x → AreFormulas a fs.items (λ b. disjuncts (spec.said (meant_at b x)))
 any_parts a x fs is h = record { has = rw is at h; are = λ b k. rw is (sym (list_back (formulas_at b fs.items))) }
 
--- one more behind the parts
+-- one more after the parts
 module _ (a c : Forms) (grown : IsGrown a c) (x y : Forms → Formula) (v w : Vec FormulaId Global) (f : FormulaId) (last : IsFormula a f y) (pushed : w.items ≡ v.items ++ f ∷ []) where
   has_more : HasFormulas c v.items → HasFormulas c w.items
   has_more h = rw pushed (HasFormulas-push c v.items f h (HasFormula-grown a c grown f last.has))

@@ -15,7 +15,7 @@ pub HasChoices-push : (c : Forms) (xs : List Choice) (x : Choice) → HasChoices
 HasChoices-push c [] x h at = (at, tt)
 HasChoices-push c (y ∷ xs) x h at = (h.0, HasChoices-push c xs x h.1 at)
 
--- one more choice behind those of before
+-- one more choice after those of before
 pub choices_more : (before : Forms → List spec.Choice) (say : Forms → spec.Choice → spec.Choice) (a c : Forms) (cs : List Choice) (i : ℕ) (d : Choice) (made after : List Choice) (z : Choice) →
     IsGrown a c → i < length cs → after ≡ made ++ z ∷ [] → AreChoices a made (λ b. before b ++ map (say b) (choices_at b (take i cs))) → IsChoice c z (λ b. say b (choice_at b (get_or cs i d))) →
     AreChoices c after (λ b. before b ++ map (say b) (choices_at b (take (i + 1) cs)))
@@ -46,7 +46,7 @@ choices_flat say a c cs i d made after g at was is = record {
       ∙ ap (λ xs. flat_map (say b) (choices_at b xs)) (sym (take_more cs i d at));
 }
 
--- two more choices behind those of before
+-- two more choices after those of before
 pub choices_two : (first second : Forms → spec.Choice) (a d c : Forms) (made after : List Choice) (x y : Choice) → IsGrown a d → IsGrown d c → after ≡ (made ++ x ∷ []) ++ y ∷ [] → HasChoices a made → IsChoice d x first → IsChoice c y second →
     AreChoices c after (λ b. choices_at b made ++ first b ∷ second b ∷ [])
 choices_two first second a d c made after x y g h e there is other = record {

@@ -44,7 +44,7 @@ checked_mapped : (g : Formula → Formula) (ms : List Marked) → checked_of (ma
 checked_mapped g [] = refl
 checked_mapped g (m ∷ ms) = ap (λ l. if m.checked then with_formula g m.part ∷ l else l) (checked_mapped g ms) ∙ if_mapped g m.checked m.part (checked_of ms)
 
--- two lists, one behind the other
+-- two lists, one after the other
 two : {A : Type 0} {a b c d : List A} → a ≡ b → c ≡ d → a ++ c ≡ b ++ d
 two {A} {a} {b} {c} {d} p q = ap (λ l. l ++ c) p ∙ ap (λ l. b ++ l) q
 

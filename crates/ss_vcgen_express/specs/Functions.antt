@@ -18,7 +18,7 @@ applied look f x = app (symbol_of f.symbol) (first_term look f.first ++ x ∷ []
 abbrev pub applied_two : (TermId → Term) → Function → Term → Term → Term
 applied_two look f x y = app (symbol_of f.symbol) (first_term look f.first ++ x ∷ y ∷ [])
 
--- at two, behind no first term
+-- at two, after no first term
 abbrev pub of_two : Symbol → Term → Term → Term
 of_two f x y = app f (x ∷ y ∷ [])
 

@@ -11,7 +11,7 @@ use crate::truths::both;
 use ss_terms::{Bank, Symbol, TermId};
 use std::alloc::{AllocError, Global};
 
-/// A function of one value or of two, behind a first term where it has one, as a store is.
+/// A function of one value or of two, after a first term where it has one, as a store is.
 #[derive(Clone, Copy)]
 pub struct Function {
     pub symbol: Symbol,

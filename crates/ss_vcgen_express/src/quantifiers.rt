@@ -28,8 +28,8 @@ pub fn bound_name(bank: &mut Bank, k: usize) -> Result<TermId, AllocError>
     bank.term(Term::Bound(k))
 }
 
-// The number behind a bound name.
-fn behind_bound(bank: &mut Bank, k: usize) -> Result<TermId, AllocError>
+// The number after a bound name.
+fn after_bound(bank: &mut Bank, k: usize) -> Result<TermId, AllocError>
     ensures at { IfOk result (λ t. IsTerm bank.new t (λ b. app Add (Bound k ∷ number (pos 1) ∷ []))) }
     ensures grown { IsGrown bank.old bank.new }
 {
@@ -60,7 +60,7 @@ fn not_below(
     ensures at { IfOk result (λ f. IsFormula bank.new f (λ b. logic.neg (spec.over (meant_at b high.now) (λ y. at_most (app Add (Bound k ∷ number (pos 1) ∷ [])) y)))) }
     ensures grown { IsGrown bank.old bank.new }
 {
-    let v = behind_bound(bank, k)?;
+    let v = after_bound(bank, k)?;
     let f = over(alloc, bank, high, Saying::Behind(Relation::AtMost, v))?;
     Ok(bank.negation(f))
 }

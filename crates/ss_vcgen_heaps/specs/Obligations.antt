@@ -147,7 +147,7 @@ abbrev pub assume_result : Option Ty → List Term → Position → Position
 assume_result (Some t) (r ∷ rs) k = assume_all (is_of_type true k.store t r) k
 assume_result t rs k = k
 
--- Behind a call: a new store, in which no more has changed than the callee may change, and what it promises holds.
+-- After a call: a new store, in which no more has changed than the callee may change, and what it promises holds.
 abbrev pub returned : Walk → BodyTree → List Meant → Position → Position
 returned w callee arguments k =
     let s = k.store in
@@ -189,7 +189,7 @@ call_with w at x callee es k =
 
 -- ---- new objects
 
--- the object behind its constructor, which is ready where that is delayed
+-- the object after its constructor, which is ready where that is delayed
 abbrev pub with_ready : Bool → Term → Position → Position
 with_ready false o k = k
 with_ready true o k = with_store (app MakeReady (k.store ∷ o ∷ [])) k
@@ -322,7 +322,7 @@ at_head w l k =
     map (holds_at w h) l.invariants
     ++ frame_at_head w l h ∷ levels_at_head w l h ∷ grown w.entry h.store ∷ good h.store ∷ types_from w h.store 0 (local_types w.body) k.locals h.locals) h
 
--- behind a loop on the literal `true` nothing is reached
+-- after a loop on the literal `true` nothing is reached
 abbrev pub exit_guard : ExprTree → ℕ → Guard
 exit_guard e n = if is_literal_true e then Never else When n
 
@@ -330,21 +330,21 @@ exit_guard e n = if is_literal_true e then Never else When n
 abbrev pub into_body : Walk → ExprTree → Position → Position
 into_body w e k = first_side (said (meant_at w e k)) (known_tested e true k.known) (evaluate w e k)
 
--- behind it: k is at its test, and the body has been gone over
-abbrev pub behind_loop : Walk → Loop → ExprTree → Position → Position → Position
-behind_loop w l e k turned =
+-- after it: k is at its test, and the body has been gone over
+abbrev pub after_loop : Walk → Loop → ExprTree → Position → Position → Position
+after_loop w l e k turned =
     let evaluated = evaluate w e k in
     second_side (exit_guard e (evaluated.next.truths + 1)) (known_tested e false k.known) evaluated (if_reached turned.guard (check_head w l turned) turned)
 
 -- ---- statements
 
--- which locals aren't null behind a statement
+-- which locals aren't null after a statement
 abbrev pub with_known : Walk → StmtTree → Known → Position → Position
 with_known w s known k = record k { known = known_after w.program w.body s known }
 
 module _ (w : Walk) where
   abbrev mutual
-    -- behind a statement
+    -- after a statement
     pub behind : StmtTree → Position → Position
     behind (AssignStmt at x e) k =
         let evaluated = evaluate w e k in
@@ -379,7 +379,7 @@ module _ (w : Walk) where
     behind (LoopStmt at asked prelude e body exposes) k =
         let l = loop_of (LoopStmt at asked prelude e body exposes) at asked exposes in
         let tested = behind_all prelude (at_head w l (check_head w l k)) in
-        if_reached tested.guard (behind_loop w l e tested (behind_all body (into_body w e tested))) tested
+        if_reached tested.guard (after_loop w l e tested (behind_all body (into_body w e tested))) tested
     behind (UnpackStmt at x t) k = unpack w at x t k
     behind (PackStmt at x t) k = pack w at x t k
     behind (AssertStmt at e) k = check w kind.Assert at (holds_at w k e) k
@@ -388,7 +388,7 @@ module _ (w : Walk) where
     behind (PrintTextStmt at text newline) k = k
     behind (ReturnStmt at e) k = return_with w at e k
 
-    -- behind statements one after the other; those that can't be reached tell nothing
+    -- after statements one after the other; those that can't be reached tell nothing
     pub behind_all : CodeTree → Position → Position
     behind_all NoCode k = k
     behind_all (Then s code) k = if_reached k.guard (behind_all code (behind s k)) k
@@ -422,7 +422,7 @@ at_entry w next =
     let k = record entered { locals = entered.locals ++ map (λ l. None) w.body.locals ++ (if is_some w.body.result then None ∷ [] else []) } in
     assume_all (good k.store ∷ argument_types_from w k.store 0 (argument_types w.body) k.locals ++ conditions w.body.entry (contract_context (classes_of w) w.body k.store k.store (arguments_at w k) (no_result w.body))) k
 
--- behind the code of a body
+-- after the code of a body
 abbrev pub at_end : Walk → Counters → Position
 at_end w next = behind_all w w.body.code (at_entry w next)
 

@@ -256,7 +256,7 @@ join_term g h s x y k =
 abbrev pub joined_term : Sort → Term → Term → Position → Term
 joined_term s x y k = if same_term x y then x else new_term s k
 
--- the locals of these types, one by one; a local without a value on one side has none behind
+-- the locals of these types, one by one; a local without a value on one side has none after
 abbrev pub join_locals : Guard → Guard → List Ty → List (Option Term) → List (Option Term) → Position → List (Option Term) × Position
 join_locals g h (t ∷ ts) (Some x ∷ xs) (Some y ∷ ys) k =
     let s = element_sort (Some t) in
@@ -282,7 +282,7 @@ join_both w meet first second =
       known = meet first.known second.known;
     }
 
--- behind both sides, of which the second was gone over last; a side whose end isn't reached doesn't count
+-- after both sides, of which the second was gone over last; a side whose end isn't reached doesn't count
 abbrev pub join_from : Guard → Guard → Walk → (Known → Known → Known) → Position → Position → Position
 join_from Never h w meet first second = second
 join_from Always Never w meet first second = record second { locals = first.locals; store = first.store; guard = first.guard; known = first.known }

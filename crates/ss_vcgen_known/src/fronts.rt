@@ -4,7 +4,7 @@ ghost use Rattle.std.specs.Prelude.{◌≡◌, IfOk, OnOk};
 ghost use Rattle.ss_core.specs.declared.names.Place.{Place as PlaceValue};
 ghost use Rattle.ss_core.specs.Tree.{ExprTree};
 ghost use Rattle.ss_core.specs.View.{expr};
-ghost use Rattle.ss_core.specs.Parts.{link_behind};
+ghost use Rattle.ss_core.specs.Parts.{link_after};
 ghost use Rattle.ss_store_rules.specs.NonNull as spec;
 ghost use Rattle.ss_vcgen_known.specs.TellsFront.{TellsFront};
 ghost use Rattle.ss_vcgen_known.specs.Views.{tested};
@@ -40,7 +40,7 @@ impl FrontTold {
 
     /// The same with one link more. An error is want of memory.
     pub fn add(&mut self, link: &Link) -> Result<(), AllocError>
-        ensures { OnOk result ((p : PlaceValue) (e : ExprTree) → TellsFront self.old e → TellsFront self.new (link_behind link.now p e)) }
+        ensures { OnOk result ((p : PlaceValue) (e : ExprTree) → TellsFront self.old e → TellsFront self.new (link_after link.now p e)) }
     {
         tell_link(link, true, 0, self.local, &mut self.holds)?;
         tell_link(link, false, 0, self.local, &mut self.fails)?;
@@ -48,7 +48,7 @@ impl FrontTold {
         Ok(())
     }
 
-    /// The tests that have come out where the right operand of an operation behind the front is read.
+    /// The tests that have come out where the right operand of an operation after the front is read.
     pub fn on_right<'t>(&'t self, operator: Operator, tests: &'t Tests<'t>) -> Tests<'t>
         ensures { (e : ExprTree) (k : spec.Known) → TellsFront self.now e → tested result k ≡ spec.known_right operator e (tested tests.now k) }
     {

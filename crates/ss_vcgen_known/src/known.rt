@@ -372,7 +372,7 @@ impl Known {
         Ok(())
     }
 
-    // Behind the constructor of the class above.
+    // After the constructor of the class above.
     fn begin(
         &mut self,
         alloc: Global,
@@ -402,7 +402,7 @@ impl Known {
         }
     }
 
-    /// Behind a statement that is neither an `if`, a loop nor a return.
+    /// After a statement that is neither an `if`, a loop nor a return.
     pub fn step(
         &mut self,
         alloc: Global,

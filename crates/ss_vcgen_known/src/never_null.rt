@@ -5,7 +5,7 @@ ghost use Rattle.ss_core.specs.declared.names.Place.{Place as PlaceValue};
 ghost use Rattle.ss_core.specs.Chain.{most_classes};
 ghost use Rattle.ss_core.specs.Tree.{ExprTree, FieldExpr};
 ghost use Rattle.ss_core.specs.View.{classes, expr};
-ghost use Rattle.ss_core.specs.Parts.{link_behind, step_behind, chain_front, path_front};
+ghost use Rattle.ss_core.specs.Parts.{link_after, step_after, chain_front, path_front};
 ghost use Rattle.ss_store_rules.specs.NonNull.{is_non_null_type, is_this_object, is_never_null};
 ghost use Rattle.ss_vcgen_known.specs.Views.{type_context_of, known_of, tested};
 
@@ -57,7 +57,7 @@ fn are_casts(links: &[Link]) -> bool
 }
 
 fn is_cast(link: &Link) -> bool
-    ensures { (p : PlaceValue) (e : ExprTree) → is_this_object (link_behind link.now p e) ≡ (result && is_this_object e) }
+    ensures { (p : PlaceValue) (e : ExprTree) → is_this_object (link_after link.now p e) ≡ (result && is_this_object e) }
 {
     match link {
         Link::As(_) => true,
@@ -102,7 +102,7 @@ fn step_never_null(
     step: &Step,
 ) -> bool
     requires { length (classes typing.classes.now) ≤ most_classes }
-    ensures { (p : PlaceValue) (e : ExprTree) → of_this ≡ is_this_object e → result ≡ is_never_null (type_context_of typing.entry) (tested tests.now (known_of known.now)) old (step_behind step.now p e) }
+    ensures { (p : PlaceValue) (e : ExprTree) → of_this ≡ is_this_object e → result ≡ is_never_null (type_context_of typing.entry) (tested tests.now (known_of known.now)) old (step_after step.now p e) }
 {
     match step {
         Step::Field(field) => field_never_null(typing, known, tests, old, of_this, *field),

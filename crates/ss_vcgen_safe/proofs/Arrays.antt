@@ -44,7 +44,7 @@ use Rattle.ss_vcgen_heaps.specs.Positions.{Position, Walk, assume_all, check, me
 use Rattle.ss_vcgen_heaps.specs.Positions as positions
 use Rattle.ss_vcgen_heaps.specs.Obligations.{local_sort, keep, behind}
 use Rattle.ss_vcgen_safe.specs.Done.{StandsFor}
-use Rattle.ss_vcgen_safe.proofs.BehindChanges.{next_stands, array_behind}
+use Rattle.ss_vcgen_safe.proofs.AfterChanges.{next_stands, array_after}
 use Rattle.ss_vcgen_safe.proofs.Checked.{array_done}
 use Rattle.ss_sound_outcomes.specs.Points.{Activation, Point, scene, Fits, entry_size}
 use Rattle.ss_sound_outcomes.specs.Outcomes.{Has, GoesOn, with_local, with_store}
@@ -55,7 +55,7 @@ use Rattle.ss_vcgen_safe.proofs.Leads.{leads_check, leads_evaluate, leads_with_t
 use Rattle.ss_vcgen_safe.proofs.Same.{same_evaluate}
 use Rattle.ss_vcgen_safe.proofs.PositionsStatements.{leads_keep}
 use Rattle.ss_vcgen_safe.specs.Goes.{IsEntered, Goes}
-use Rattle.ss_vcgen_safe.proofs.Behind.{later_known, here_behind}
+use Rattle.ss_vcgen_safe.proofs.Behind.{later_known, here_after}
 use Rattle.ss_vcgen_safe.proofs.Evaluates.{meaning_on, good_at, evaluated}
 use Rattle.ss_vcgen_safe.proofs.Plain.{has_value}
 use Rattle.ss_vcgen_safe.proofs.Puts.{put_arguments, known_agrees, put_agrees}
@@ -179,12 +179,12 @@ module _ (w : Walk) (before : List Object) (table : Table) (arguments : List Obj
       let tables : table ≡ m''.table = sym (d.table ∙ is.table_is) in
       array_formulas cs m'' o n (length p.store) t i (new_stands m'' d) (stands m'' d) (subst (λ u. u.class_of (reference (length p.store)) ≡ t) tables class) (subst (λ u. pos (u.length_of (reference (length p.store))) ≡ i) tables size) in
       let g4 = assumed_all w before table m' p fs k3 stay c.1 in
-      let behind_store = array_behind cs m' k2.store p.store (store_stands m' self) n t i z (stands m' self) done.1 (subst (λ u. Fits cs u z) (sym is.table_is) sound.fits) sound.store in
+      let after_store = array_after cs m' k2.store p.store (store_stands m' self) n t i z (stands m' self) done.1 (subst (λ u. Fits cs u z) (sym is.table_is) sound.fits) sound.store in
       let g5 = stored w before table m' k4 p new z (steady_two cs k2.next m' (NewArray t) k2.store n (λ m m' vs. refl) (steady_value cs k2.next m' k2.store _ is.store_is.is) (steady_value cs k2.next m' n (standing v) settled.term.is))
-      (array_sorted cs t k2.store n is.store_is.sorted settled.term.sorted) behind_store g4 in
+      (array_sorted cs t k2.store n is.store_is.sorted settled.term.sorted) after_store g4 in
       let count = here.at.sound.locals.count in
       let g6 = kept_agrees w before table m' k5 r o y (Some (class_type t)) count new_stands (next_sorted cs k2.store is.store_is.sorted) g5 x kept.1 in
       let later = later_known a (entry_size a) p z entered.body.flags here.at.sound b.reached.later k.known here.at.known in
       let known = kept_known a r y (Some (class_type t)) true k.known entered.body.flags count (λ nn. object_not_null (length p.store)) later x kept.1 coded.targets in
       ends (λ u. is_target st u || xs u) m' q refl alike
-      (here_behind w before table arguments xs m k p st refl coded here m' q sound b (put_arguments w.body x y p.locals coded.targets) (known_agrees w before table m' (keep x (o ∷ []) k5) q (behind w st k).known g6) known)))
+      (here_after w before table arguments xs m k p st refl coded here m' q sound b (put_arguments w.body x y p.locals coded.targets) (known_agrees w before table m' (keep x (o ∷ []) k5) q (behind w st k).known g6) known)))

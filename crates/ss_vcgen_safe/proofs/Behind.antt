@@ -1,4 +1,4 @@
--- What holds behind a statement: of assigned locals, of what is known of null, and of the arguments.
+-- What holds after a statement: of assigned locals, of what is known of null, and of the arguments.
 use Rattle.std.proofs.Common.{◌≡◌, ℕ, List, [], ◌∷◌, ◌++◌, Bool, true, false, ◌||◌, refl, ◌∙◌, ap, subst, ⊎_elim}
 use Rattle.std.specs.Prelude.{Option, Some, None, slice_get, unwrap_or, if◌then◌else◌, option_to_list}
 use Rattle.std.proofs.lemmas.Bool.{false≢true, or_cases, or_right}
@@ -21,7 +21,7 @@ use Rattle.ss_machine_good.proofs.Behind.{constructor_instance, later_given}
 use Rattle.ss_logic.specs.Values.{Table, Structure}
 use Rattle.ss_vcgen_heaps.specs.Positions.{Guard, Always, When, Never, Position, Walk}
 use Rattle.ss_vcgen_heaps.specs.Obligations.{behind}
-use Rattle.ss_sound_outcomes.specs.Points.{Activation, Point, scene, IsSound, IsBehind}
+use Rattle.ss_sound_outcomes.specs.Points.{Activation, Point, scene, IsSound, IsAfter}
 use Rattle.ss_vcgen_safe.specs.At.{IsOn, activation, Agrees, HaveTerms}
 use Rattle.ss_vcgen_safe.proofs.Alike.{alike_self}
 use Rattle.ss_vcgen_safe.proofs.Paths.{IsReachable, IsPlaced, placed}
@@ -29,8 +29,8 @@ use Rattle.ss_vcgen_safe.specs.Goes.{IsCoded, IsHere}
 
 -- ---- assigned locals
 
-pub assigned_behind : (a : Activation) (s : StmtTree) (p q : Point) (xs : ℕ → Bool) → IsBehind a s p q → AreAssigned a.body xs (scene a p) → AreAssigned a.body (λ x. is_target s x || xs x) (scene a q)
-assigned_behind a s p q xs b so x asked typed = ⊎_elim (λ t. b.assigned x t typed) (λ o. b.reached.stays x typed (so x o typed)) (or_cases (is_target s x) (xs x) asked)
+pub assigned_after : (a : Activation) (s : StmtTree) (p q : Point) (xs : ℕ → Bool) → IsAfter a s p q → AreAssigned a.body xs (scene a p) → AreAssigned a.body (λ x. is_target s x || xs x) (scene a q)
+assigned_after a s p q xs b so x asked typed = ⊎_elim (λ t. b.assigned x t typed) (λ o. b.reached.stays x typed (so x o typed)) (or_cases (is_target s x) (xs x) asked)
 
 -- ---- what is known of null
 
@@ -74,20 +74,20 @@ reachable Always m h = tt
 reachable (When n) m h = tt
 reachable Never m h = h
 
--- ---- the run behind a statement
+-- ---- the run after a statement
 
 module _ (w : Walk) (before : List Object) (table : Table) (arguments : List ObjectValue) (xs : ℕ → Bool) (m : Structure) (k : Position) (p : Point) (s : StmtTree) (simple : is_simple s ≡ true) (coded : IsCoded w xs k.known s)
     (here : IsHere w before table arguments xs m k p) where
-  terms_behind : HaveTerms (λ x. is_target s x || xs x) (behind w s k).locals
-  terms_behind =
+  terms_after : HaveTerms (λ x. is_target s x || xs x) (behind w s k).locals
+  terms_after =
       let at = placed w s xs k coded.typed here.at.agrees.count (reachable k.guard m (here.at.agrees.guard m (alike_self k.next m)), here.at.terms) in
       (subst (λ o. IsPlaced o (behind w s k)) (path_simple s xs simple) at).1
 
-  -- Where the position behind agrees, the run is at it.
-  pub here_behind : (m' : Structure) (q : Point) → IsSound (activation w before table) q → IsBehind (activation w before table) s p q → ((x : ℕ) → is_argument w.body x ≡ true → slice_get q.locals x ≡ slice_get p.locals x) →
+  -- Where the position after agrees, the run is at it.
+  pub here_after : (m' : Structure) (q : Point) → IsSound (activation w before table) q → IsAfter (activation w before table) s p q → ((x : ℕ) → is_argument w.body x ≡ true → slice_get q.locals x ≡ slice_get p.locals x) →
       Agrees w before table m' (behind w s k) q → IsTrueOf w.body.flags.ctor (behind w s k).known (scene (activation w before table) q) → IsHere w before table arguments (λ x. is_target s x || xs x) m' (behind w s k) q
-  here_behind m' q sound b same agrees known = record {
-    at = record { agrees = agrees; known = known; assigned = assigned_behind (activation w before table) s p q xs b here.at.assigned; terms = terms_behind; sound = sound };
+  here_after m' q sound b same agrees known = record {
+    at = record { agrees = agrees; known = known; assigned = assigned_after (activation w before table) s p q xs b here.at.assigned; terms = terms_after; sound = sound };
     assigned = λ x h. or_right (is_target s x) (xs x) (here.assigned x h);
     same = λ x h. same x h ∙ here.same x h;
   }

@@ -1,4 +1,4 @@
--- Code one after the other, and an `if`: both sides go on to one position behind them.
+-- Code one after the other, and an `if`: both sides go on to one position after them.
 use Rattle.std.proofs.Common.{◌≡◌, ℕ, ◌+◌, List, length, Bool, true, false, ◌&&◌, refl, sym, ◌∙◌, ap, subst}
 use Rattle.std.specs.Prelude.{Option, Some, None}
 use Rattle.std.proofs.lemmas.Bool.{and_parts, and_from}
@@ -38,7 +38,7 @@ use Rattle.ss_vcgen_safe.proofs.Known.{IsIn, all_stay_assigned, on_reachable, wh
 
 -- ---- where paths meet
 
--- what is assigned behind both sides, of which this end was reached
+-- what is assigned after both sides, of which this end was reached
 record IsMet (o : Option (ℕ → Bool)) (xs : ℕ → Bool) (other : Option (ℕ → Bool)) : Type 0 where
   us : ℕ → Bool
   is : o ≡ Some us
@@ -118,7 +118,7 @@ module _ (w : Walk) (before : List Object) (table : Table) (arguments : List Val
   pub nothing_goes : (Q : Point → Type 0) → AllGoes w before table arguments NoCode Q
   nothing_goes Q xs m k p c h v ends = ends xs m p refl (alike_self k.next m) h
 
-  -- what is known behind a statement whose end is reached
+  -- what is known after a statement whose end is reached
   known_there : (o : Option Known) (k : Position) → IsKnown o k → IsReachable k.guard → o ≡ Some k.known
   known_there None k is r = absurd (subst IsReachable is r)
   known_there (Some known) k is r = ap Some (sym is.1)
@@ -177,8 +177,8 @@ module _ (w : Walk) (before : List Object) (table : Table) (arguments : List Val
     is_placed : IsPlaced Behind end
     is_placed = placed w (IfStmt at e one other) xs k c.typed h.at.agrees.count (here_reachable xs m k p h, h.at.terms)
 
-    terms_behind : (us : ℕ → Bool) → Behind ≡ Some us → HaveTerms us end.locals
-    terms_behind us is = (subst (λ o. IsPlaced o end) is is_placed).1
+    terms_after : (us : ℕ → Bool) → Behind ≡ Some us → HaveTerms us end.locals
+    terms_after us is = (subst (λ o. IsPlaced o end) is is_placed).1
 
     -- from the beginning of a side
     to_start : Rises k.next start.next
@@ -210,7 +210,7 @@ module _ (w : Walk) (before : List Object) (table : Table) (arguments : List Val
         (λ ys m' q is a h'. let o = at_end assigned_flow other (Some xs) in
         let z = met_first ys o in
         let is' : Behind ≡ Some z.us = ap (λ u. met assigned_flow u o) is ∙ z.is in
-        let g = behind_first w before table first second m' q ys z.us z.less (terms_behind z.us is') first_count second_count begun h'.at refl refl
+        let g = behind_first w before table first second m' q ys z.us z.less (terms_after z.us is') first_count second_count begun h'.at refl refl
         (stays_on (λ m''. m''.truths (tested.next.truths + 1) ≡ false) start.next first.next side.to.m' m' (leads_all w one start).rises a side.other) (leads_all w other begun) in
         ends z.us g.m' q is'
         (alike_twice k.next m m' g.m'
@@ -226,7 +226,7 @@ module _ (w : Walk) (before : List Object) (table : Table) (arguments : List Val
         (λ ys m' q is a h'. let o = at_end assigned_flow one (Some xs) in
         let z = met_second o ys in
         let is' : Behind ≡ Some z.us = ap (λ u. met assigned_flow o u) is ∙ z.is in
-        let g = behind_second w before table first second m' q ys z.us z.less (terms_behind z.us is') first_count second_count h'.at
+        let g = behind_second w before table first second m' q ys z.us z.less (terms_after z.us is') first_count second_count h'.at
         (stays_on (IsOff first.guard) begun.next second.next side.to.m' m' (leads_all w other begun).rises a side.off) in
         ends z.us g.m' q is'
         (alike_twice k.next m m' g.m'

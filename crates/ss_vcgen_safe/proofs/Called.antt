@@ -1,4 +1,4 @@
--- A call at a position: the conditions at entry hold, and behind it the position agrees, with the result in its local.
+-- A call at a position: the conditions at entry hold, and after it the position agrees, with the result in its local.
 use Rattle.std.proofs.Common.{◌≡◌, ℕ, List, [], ◌∷◌, length, map, true, Some, sym, ◌∙◌, ap, subst}
 use Rattle.std.specs.Prelude.{Option, None, slice_get}
 use Rattle.std.proofs.lemmas.Bool.{false≢true}
@@ -22,7 +22,7 @@ use Rattle.ss_logic.specs.Express.{Meant, One, element_sort}
 use Rattle.ss_logic_means.specs.Sorts.{HasSort}
 use Rattle.ss_vcgen_heaps.specs.Positions.{Counters, Position, Walk, with_new}
 use Rattle.ss_vcgen_heaps.specs.Obligations.{check_entry, result_term, returned, keep, call, AreValid}
-use Rattle.ss_sound_outcomes.specs.Points.{Activation, Point, Fits, IsSound, IsBehind, ArePassed}
+use Rattle.ss_sound_outcomes.specs.Points.{Activation, Point, Fits, IsSound, IsAfter, ArePassed}
 use Rattle.ss_sound_outcomes.specs.Outcomes.{with_local, with_store, IsReturn, Enters, CallsSafely}
 use Rattle.ss_vcgen_safe.specs.At.{IsAlike, activation, Agrees}
 use Rattle.ss_vcgen_safe.proofs.PositionsStatements.{leads_returned, leads_keep}
@@ -51,7 +51,7 @@ module _ (w : Walk) (before : List Object) (table : Table) where
       put_agrees w before table m j q y u v (slice_get_within (local_types w.body) y d.0 d.1) count r.0.is (subst (λ (s : Sort). HasSort cs [] s u) same r.1) g
   kept_agrees m j q (Some y) v (Some t) fits count (u ∷ (z ∷ rs)) r g = absurd r
 
-  -- In some structure that is alike the position k' agrees behind the call.
+  -- In some structure that is alike the position k' agrees after the call.
   pub record HasCalled (m : Structure) (k k' : Position) (q : Point) : Type 0 where
     pub m' : Structure
     pub alike : IsAlike k.next m m'
@@ -83,12 +83,12 @@ module _ (w : Walk) (before : List Object) (table : Table) where
 
     -- The call goes on safely.
     pub calls_safely : (u : StmtTree) (Q : Point → Type 0) → fits_kept cs w.body x b.result ≡ true → (o : Option BodyTree) → o ≡ Some b → AreValid cs (call w at x o ms k).listed →
-        ((z : List Object) (v : ObjectValue) (m' : Structure) → IsReturn a b (ToCall x) vs p.store z v → IsSound a (with_local x v (with_store z p)) → IsBehind a u p (with_local x v (with_store z p)) → IsAlike k.next m m' →
+        ((z : List Object) (v : ObjectValue) (m' : Structure) → IsReturn a b (ToCall x) vs p.store z v → IsSound a (with_local x v (with_store z p)) → IsAfter a u p (with_local x v (with_store z p)) → IsAlike k.next m m' →
         Agrees w before table m' (call w at x o ms k) (with_local x v (with_store z p)) → Q (with_local x v (with_store z p))) →
         CallsSafely a u Q p x o vs
     calls_safely u Q fits o is =
         subst (λ (c : Option BodyTree). AreValid cs (call w at x c ms k).listed →
-        ((z : List Object) (v : ObjectValue) (m' : Structure) → IsReturn a b (ToCall x) vs p.store z v → IsSound a (with_local x v (with_store z p)) → IsBehind a u p (with_local x v (with_store z p)) → IsAlike k.next m m' →
+        ((z : List Object) (v : ObjectValue) (m' : Structure) → IsReturn a b (ToCall x) vs p.store z v → IsSound a (with_local x v (with_store z p)) → IsAfter a u p (with_local x v (with_store z p)) → IsAlike k.next m m' →
         Agrees w before table m' (call w at x c ms k) (with_local x v (with_store z p)) → Q (with_local x v (with_store z p))) →
         CallsSafely a u Q p x c vs) (sym is)
         (λ valid ends passed.

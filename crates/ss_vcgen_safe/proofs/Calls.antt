@@ -52,7 +52,7 @@ use Rattle.ss_vcgen_safe.proofs.PositionsStatements.{leads_settle_all, leads_cal
 use Rattle.ss_vcgen_safe.specs.Goes.{IsCoded, IsEntered, IsHere, EndsIn, Goes}
 use Rattle.ss_vcgen_safe.proofs.Evaluates.{good_at}
 use Rattle.ss_vcgen_safe.proofs.Puts.{put_arguments, known_agrees}
-use Rattle.ss_vcgen_safe.proofs.Behind.{later_known, here_behind}
+use Rattle.ss_vcgen_safe.proofs.Behind.{later_known, here_after}
 use Rattle.ss_vcgen_safe.proofs.Plain.{has_value}
 use Rattle.ss_vcgen_safe.specs.Stated.{IsStatedBody, IsTermFor, AreTermsFor}
 use Rattle.ss_vcgen_safe.proofs.Stated.{formed_stated, seen_stated}
@@ -121,8 +121,8 @@ module _ (w : Walk) (before : List Object) (table : Table) (arguments : List Obj
     abbrev checked : List Meant → Position
     checked ms = check_receiver w at callee ms settled
 
-    abbrev behind_call : List Meant → Position
-    behind_call ms = call w at x o (with_this w callee ms settled) (checked ms)
+    abbrev after_call : List Meant → Position
+    after_call ms = call w at x o (with_this w callee ms settled) (checked ms)
 
     typed : (is_receiver cs w.body callee ≡ true) × (is_call_of cs w.body x es (callee_of w.program w.body callee) ≡ true)
     typed = and_parts (is_receiver cs w.body callee) (is_call_of cs w.body x es (callee_of w.program w.body callee)) coded.typed
@@ -136,8 +136,8 @@ module _ (w : Walk) (before : List Object) (table : Table) (arguments : List Obj
 
     -- with the terms of the operands in place of what they mean
     module _ (ms : List Meant) (are : arguments_settled w operands evaluated ≡ ms) where
-      pub valid_call : AreValid cs (behind_call ms).listed
-      valid_call = subst (λ ns. AreValid cs (behind_call ns).listed) are valid
+      pub valid_call : AreValid cs (after_call ms).listed
+      valid_call = subst (λ ns. AreValid cs (after_call ns).listed) are valid
 
       pub valid_checked : AreValid cs (checked ms).listed
       valid_checked = (leads_call w at x o (with_this w callee ms settled) (checked ms)).listed valid_call
@@ -156,12 +156,12 @@ module _ (w : Walk) (before : List Object) (table : Table) (arguments : List Obj
           (λ z v m' r sound b_hind more agrees.
           let q = with_local x v (with_store z p) in
           let agrees1 = subst (λ ns. Agrees w before table m' (call w at x o ns (checked ms)) q) (sym these) agrees in
-          let agrees2 = subst (λ ns. Agrees w before table m' (behind_call ns) q) (sym are) agrees1 in
+          let agrees2 = subst (λ ns. Agrees w before table m' (after_call ns) q) (sym are) agrees1 in
           ends (λ y. is_target st y || xs y) m' q refl (alike_twice k.next m m1 m' alike (alike_lower k.next (checked ms).next m1 m' (rises ms) more))
-          (here_behind w before table arguments xs m k p st refl coded here m' q sound b_hind (put_arguments w.body x v p.locals coded.targets)
-          (known_agrees w before table m' (behind_call (arguments_settled w operands evaluated)) q (known_after w.program w.body st k.known) agrees2) (known z v r)))
+          (here_after w before table arguments xs m k p st refl coded here m' q sound b_hind (put_arguments w.body x v p.locals coded.targets)
+          (known_agrees w before table m' (after_call (arguments_settled w operands evaluated)) q (known_after w.program w.body st k.known) agrees2) (known z v r)))
 
-    -- what is known behind a call of a method
+    -- what is known after a call of a method
     pub method_known : (b : BodyTree) → is_non_null_type (result_of (callee_of w.program w.body callee)) ≡ is_non_null_type b.result → fits_kept cs w.body x b.result ≡ true → (vs : List ObjectValue) (z : List Object) (v : ObjectValue) → IsReturn a b (ToCall x) vs p.store z v →
         IsTrueOf w.body.flags.ctor (with_kept x (is_non_null_type (result_of (callee_of w.program w.body callee))) k.known) (scene a (with_local x v (with_store z p)))
     method_known b same fits vs z v r =

@@ -1,4 +1,4 @@
--- What is known of null behind a call.
+-- What is known of null after a call.
 use Rattle.std.proofs.Common.{◌≡◌, ℕ, List, length, Bool, true, false, Some, refl, sym, ◌∙◌, ap, subst, arith, inl, inr, ◌⊎◌, ⊎_elim}
 use Rattle.std.specs.Prelude.{Option, None, slice_get, not, ◌||◌, ◌==◌, if◌then◌else◌}
 use Rattle.std.proofs.lemmas.Bool.{false≢true, true≢false, and_parts, or_cases, cases_Bool, eqb-true, eq-eqb}
@@ -120,7 +120,7 @@ module _ (a : Activation) (formed : IsFormed a.program) (fb : IsFormedBody a.pro
         (λ up. up)
         (own_or_up g r.0)
 
-    -- the fields that are known behind it have their values
+    -- the fields that are known after it have their values
     answered : (v : Value) → IsAnswer c base_is.body (ToCall x) this z v → (g : ℕ) → (b.flags.delayed ≡ false) ⊎ (is_field_above c b g ≡ true) → HasGiven c z this g
     answered v answer g which = ⊎_elim
         (λ up. answer.fields base_is.ctor g (λ delayed. up))

@@ -36,7 +36,7 @@ use Rattle.ss_vcgen_heaps.specs.Positions.{Position, Walk, check, meant_at, eval
 use Rattle.ss_vcgen_heaps.specs.Positions as positions
 use Rattle.ss_vcgen_heaps.specs.Obligations.{check_not_null, is_index, behind}
 use Rattle.ss_vcgen_safe.specs.Done.{IsDone}
-use Rattle.ss_vcgen_safe.proofs.BehindChanges.{put_behind}
+use Rattle.ss_vcgen_safe.proofs.AfterChanges.{put_after}
 use Rattle.ss_vcgen_safe.proofs.Checked.{element_done}
 use Rattle.ss_sound_outcomes.specs.Points.{Point, scene, entry_size}
 use Rattle.ss_sound_outcomes.specs.Outcomes.{Has, Changes, with_store}
@@ -190,7 +190,7 @@ module _ (w : Walk) (before : List Object) (table : Table) (arguments : List Obj
       (steady_value cs k6.next m6 v (standing ev_u.value) t_u.term.is)))
       (put_sorted cs element.0 k6.store o j v is.store_is.sorted t_e.term.sorted t_i.term.sorted (subst (λ r. HasSort cs [] r v) (ap element_sort element.1) t_u.term.sorted))
       done
-      (λ z d sound. put_behind cs m6 k6.store p.store has o j v ev_e.value n ev_u.value z (is_o m6 here6) (λ d. is_j m6 here6 d ∙ ap standing number) (t_u.term.is m6 here6) d sound.store)
+      (λ z d sound. put_after cs m6 k6.store p.store has o j v ev_e.value n ev_u.value z (is_o m6 here6) (λ d. is_j m6 here6 d ∙ ap standing number) (t_u.term.is m6 here6) d sound.store)
       (λ z g. known_agrees w before table m6 (positions.with_store new k9) (with_store z p) (behind w st k).known g)
       (λ z d sound b. later_known a (entry_size a) p z entered.body.flags here.at.sound b.reached.later k.known here.at.known)
       ends)))

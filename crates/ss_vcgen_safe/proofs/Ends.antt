@@ -1,4 +1,4 @@
--- Behind an `if`: the position agrees where the side that was run does at its end.
+-- After an `if`: the position agrees where the side that was run does at its end.
 use Rattle.std.proofs.Common.{◌≡◌, ℕ, List, [], ◌∷◌, length, true, ◌⊎◌, inl, inr, ⊎_elim, eqb, refl, sym, ◌∙◌, subst, arith}
 use Rattle.std.specs.Prelude.{slice_get}
 use Rattle.std.proofs.lemmas.Bool.{true≢false, eq-eqb}

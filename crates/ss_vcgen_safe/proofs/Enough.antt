@@ -198,7 +198,7 @@ module _ (b : BodyTree) (first : List Ty) (constructs : Bool) (among : ℕ → B
 
   -- ---- operations
 
-  -- two expressions x and y, of which the second stands behind what is known of the first
+  -- two expressions x and y, of which the second stands after what is known of the first
   module _ (c : Context) (e : List Value) (ps qs : List Part) (fs gs : List Formula) (one : All c.classes m e (formulas_of ps) → All c.classes m e fs) where
     abbrev B : List Formula → Type 0
     B hs = All c.classes m e hs

@@ -165,9 +165,9 @@ slot_written (x ∷ xs) f v u e = ⊎_elim
     (λ past. slot_written xs f v u (rw past at e))
     (cases_Bool (x.field == f))
 
-field_behind : (o f : ℕ) (v : ObjectValue) (r : Result (List Object) Kind) (z : List Object) → then_written o f v r ≡ Ok z → (x : Object) → slice_get z o ≡ Some x → (u : ObjectValue) → field_value x f ≡ Some u → u ≡ v
-field_behind o f v (Err k) z h x ex u eu = absurd (let none : ⊥ = cc in none)
-field_behind o f v (Ok y) z h x ex u eu =
+field_after : (o f : ℕ) (v : ObjectValue) (r : Result (List Object) Kind) (z : List Object) → then_written o f v r ≡ Ok z → (x : Object) → slice_get z o ≡ Some x → (u : ObjectValue) → field_value x f ≡ Some u → u ≡ v
+field_after o f v (Err k) z h x ex u eu = absurd (let none : ⊥ = cc in none)
+field_after o f v (Ok y) z h x ex u eu =
     let same : changed (written o f v) y ≡ z = cc in
     let old = was (written o f v) y o x (subst (λ n. slice_get n o ≡ Some x) (sym same) ex) in
     let is : slot_value (if o == o then with_field old.0.fields f v else old.0.fields) f ≡ Some u = subst (λ (n : Object). field_value n f ≡ Some u) (sym old.2) eu in
@@ -179,7 +179,7 @@ field_written cs s o f v z h x ex u eu =
     let r = on_object_ok s (value.Obj o) (writing cs s f v) z h in
     let same : r.0 ≡ o = let e = r.1 in cc in
     let c = check_ok (not (packed cs r.2.0 (field_class cs f))) kind.WriteLevel (then_written r.0 f v (with_owners (field_mark cs f) s r.0 (field_class cs f) v)) z r.2.2 in
-    field_behind r.0 f v (with_owners (field_mark cs f) s r.0 (field_class cs f) v) z c.1 x (subst (λ n. slice_get z n ≡ Some x) (sym same) ex) u eu
+    field_after r.0 f v (with_owners (field_mark cs f) s r.0 (field_class cs f) v) z c.1 x (subst (λ n. slice_get z n ≡ Some x) (sym same) ex) u eu
 
 this_value : (e : ExprTree) (s : Setting) (v : ObjectValue) → is_this e ≡ true → run.value_of e s ≡ Ok v → local_value s 0 ≡ v
 this_value (LocalExpr p y) s v h e = let zero_ = eqb-true y 0 h in subst (λ n. local_value s n ≡ v) zero_ (ok_same (local_value s y) v e)

@@ -1,4 +1,4 @@
--- Calls and new objects: what is checked at entry, and what is assumed behind.
+-- Calls and new objects: what is checked at entry, and what is assumed after.
 use Rattle.std.proofs.Common.{◌≡◌, ℕ, pos, List, [], ◌∷◌, ◌++◌, map, Bool, true, false, not, ◌&&◌, ◌==◌, refl, sym, ap, subst}
 use Rattle.std.specs.Prelude.{Option, Some, None, is_some, option_map, option_to_list, slice_get}
 use Rattle.std.specs.List.{list_all}
@@ -118,7 +118,7 @@ module _ (w : Walk) (formed : IsFormed w.program) (body : IsFormedBody w.program
   abbrev cs : List ClassTree
   cs = w.program.classes
 
-  -- ---- behind a call
+  -- ---- after a call
 
   result_terms : (r : Option Ty) (k : Position) → AreTerms cs (option_to_list r) (map One (result_term r k))
   result_terms None k = tt

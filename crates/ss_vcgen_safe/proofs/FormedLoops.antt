@@ -65,7 +65,7 @@ module _ (w : Walk) (s : Term) (store : HasSort w.program.classes [] sort.Store 
 
 -- ---- new constants
 
--- what is left of a list behind a place
+-- what is left of a list after a place
 abbrev IsRest : List Ty → ℕ → List Ty → Type 0
 IsRest all x rest = (i : ℕ) → slice_get rest i ≡ slice_get all (i + x)
 

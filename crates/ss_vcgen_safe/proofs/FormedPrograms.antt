@@ -3,7 +3,7 @@ use Rattle.std.proofs.Common.{◌≡◌, ℕ, suc, ◌+◌, List, [], ◌∷◌,
 use Rattle.std.specs.Prelude.{Some, slice_get}
 use Rattle.std.proofs.lemmas.Bool.{false≢true, and_parts}
 use Rattle.ss_core.specs.Tree.{BodyTree, CoreTree}
-use Rattle.ss_store_rules.specs.Construction.{is_base_or_ready, has_no_base_or_ready, opening, behind_opening, begins_with, is_below_object, has_delayed_base, wants_base, wants_ready}
+use Rattle.ss_store_rules.specs.Construction.{is_base_or_ready, has_no_base_or_ready, opening, after_opening, begins_with, is_below_object, has_delayed_base, wants_base, wants_ready}
 use Rattle.ss_store_rules.specs.Formed.{IsFormedBody, IsFormed}
 use Rattle.ss_store_rules.specs.Locals.{is_argument, each}
 use Rattle.ss_machine_good.proofs.Openings.{each_of_parts}
@@ -19,10 +19,10 @@ use Rattle.ss_vcgen_safe.proofs.FormedEntries.{entry_formed, entry_placed}
 module _ (c : CoreTree) (formed : IsFormed c) where
   plain_code : (b : BodyTree) → IsFormedBody c b → b.flags.ctor ≡ false → each (λ s. not (is_base_or_ready s)) b.code ≡ true
   plain_code b is plain =
-      let p = and_parts (has_no_base_or_ready (opening b.code)) (begins_with (wants_base c b) (wants_ready c b) (behind_opening b.code)) is.order in
+      let p = and_parts (has_no_base_or_ready (opening b.code)) (begins_with (wants_base c b) (wants_ready c b) (after_opening b.code)) is.order in
       each_of_parts (λ s. not (is_base_or_ready s)) b.code p.0 (none_begins b.flags.ctor plain p.1)
     where
-      none_begins : (k : Bool) → k ≡ false → begins_with (k && not (is_below_object c b)) (k && not b.flags.delayed && has_delayed_base c b) (behind_opening b.code) ≡ true → has_no_base_or_ready (behind_opening b.code) ≡ true
+      none_begins : (k : Bool) → k ≡ false → begins_with (k && not (is_below_object c b)) (k && not b.flags.delayed && has_delayed_base c b) (after_opening b.code) ≡ true → has_no_base_or_ready (after_opening b.code) ≡ true
       none_begins true e h = absurd (false≢true (sym e))
       none_begins false e h = h
 

@@ -1,4 +1,4 @@
--- All statements: behind each the position is as it is to be.
+-- All statements: after each the position is as it is to be.
 use Rattle.std.proofs.Common.{◌≡◌, ℕ, ◌+◌, List, [], ◌∷◌, ◌++◌, map, length, Bool, true, false, not, ◌&&◌, ◌||◌, refl, sym, ap, subst, ⊎_elim}
 use Rattle.std.specs.Prelude.{Option, Some, None, is_some, slice_get, option_to_list}
 use Rattle.std.specs.List.{list_all}
@@ -30,7 +30,7 @@ use Rattle.ss_logic_means.specs.Sorts.{HasSort}
 use Rattle.ss_logic_means.proofs.Forming.{C}
 use Rattle.ss_logic_means.proofs.Operating.{int_sort}
 use Rattle.ss_vcgen_heaps.specs.Positions.{Guard, Always, When, Never, Position, Walk, check_all, holds_at, new_term, set_local, local_term, meant_at, evaluate, evaluate_all, define, with_term, term_for, first_side, second_side, if_reached}
-use Rattle.ss_vcgen_heaps.specs.Obligations.{classes_of, local_sort, write, write_element, construct, new_array, call_with, Loop, loop_of, check_head, at_head, exit_guard, evaluate_result, into_body, behind_loop, behind, behind_all}
+use Rattle.ss_vcgen_heaps.specs.Obligations.{classes_of, local_sort, write, write_element, construct, new_array, call_with, Loop, loop_of, check_head, at_head, exit_guard, evaluate_result, into_body, after_loop, behind, behind_all}
 use Rattle.ss_vcgen_safe.specs.At.{HaveTerms}
 use Rattle.ss_vcgen_safe.proofs.Paths.{IsReachable, IsPlaced, SamePlace, like_place, placed_same, placed_head, placed, placed_all}
 use Rattle.ss_vcgen_safe.proofs.Same.{same_check_all, same_evaluate}
@@ -231,11 +231,11 @@ module _ (w : Walk) (formed : IsFormed w.program) (body : IsFormedBody w.program
       again_formed None p h is_turned = subst (λ (g : Guard). IsFormedAt w (if_reached g (check_head w l turned) turned)) (sym p) is_turned
       again_formed (Some zs) p h is_turned = when_reached turned.guard (check_head w l turned) turned (IsFormedAt w) p.0 (head_checked w body entry zs l (asked_at zs typed exposed h) turned is_turned p.1)
 
-      -- behind the loop, where its body goes on so
+      -- after the loop, where its body goes on so
       rest_formed : (o : Option (ℕ → Bool)) → IsPlaced o tested → where_reached (λ ys. reads_assigned w.body ys e) o ≡ true → holds_along assigned_flow (assigned_check w.body) code (in_body assigned_flow e o) ≡ true →
           Again (at_end assigned_flow code (in_body assigned_flow e o)) → ((ys : ℕ → Bool) → AreReadSoundly w (Some ys) code → IsFormedAt w start → IsPlaced (Some ys) start → IsFormedAt w turned) →
-          IsFormedAt w (if_reached tested.guard (behind_loop w l e tested turned) tested)
-      rest_formed None p read holds again goes = subst (λ (g : Guard). IsFormedAt w (if_reached g (behind_loop w l e tested turned) tested)) (sym p) is
+          IsFormedAt w (if_reached tested.guard (after_loop w l e tested turned) tested)
+      rest_formed None p read holds again goes = subst (λ (g : Guard). IsFormedAt w (if_reached g (after_loop w l e tested turned) tested)) (sym p) is
       rest_formed (Some ys) p read holds again goes =
           let condition = (and_parts (list_all (is_condition cs w.body in_assert) asked) (is_condition cs w.body in_code e) typed).1 in
           let a = evaluate w e tested in
@@ -246,7 +246,7 @@ module _ (w : Walk) (formed : IsFormed w.program) (body : IsFormedBody w.program
           let is_turned = goes ys (record { typed = code_typed; exposed = code_exposed; ready = code_ready; assigned = holds }) is_start p_start in
           let p_turned = placed_all w code (Some ys) start code_typed is_start.count p_start in
           let end = if_reached turned.guard (check_head w l turned) turned in
-          when_reached tested.guard (behind_loop w l e tested turned) tested (IsFormedAt w) p.0
+          when_reached tested.guard (after_loop w l e tested turned) tested (IsFormedAt w) p.0
           (second_formed w (exit_guard e (a.next.truths + 1)) (known_tested e false tested.known) a end is_a (again_formed (at_end assigned_flow code (Some ys)) p_turned again is_turned))
 
   -- ---- all of them

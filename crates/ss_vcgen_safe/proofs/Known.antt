@@ -82,9 +82,9 @@ or_neither : (a b : Bool) → (a || b) ≡ false → (a ≡ false) × (b ≡ fal
 or_neither true b h = absurd (false≢true (sym h))
 or_neither false b h = (refl, h)
 
-none_behind : (code : CodeTree) → at_end assigned_flow code None ≡ None
-none_behind NoCode = refl
-none_behind (Then s code) = refl
+none_after : (code : CodeTree) → at_end assigned_flow code None ≡ None
+none_after NoCode = refl
+none_after (Then s code) = refl
 
 mutual
   none_passes : (s : StmtTree) (xs : ℕ → Bool) → passes s ≡ false → paths.behind assigned_flow s xs ≡ None
@@ -109,7 +109,7 @@ mutual
       one_of : (b : Bool) → (b && reaches_end code) ≡ false → (b ≡ false → paths.behind assigned_flow s xs ≡ None) → (reaches_end code ≡ false → at_end assigned_flow code (paths.behind assigned_flow s xs) ≡ None) →
           at_end assigned_flow code (paths.behind assigned_flow s xs) ≡ None
       one_of true h first later = later h
-      one_of false h first later = let e = first refl in rw e (none_behind code)
+      one_of false h first later = let e = first refl in rw e (none_after code)
 
 -- ---- reached positions
 
@@ -201,7 +201,7 @@ module _ (w : Walk) where
   abbrev HasCount : Position → Type 0
   HasCount k = length k.locals ≡ length (local_types w.body)
 
-  -- a simple statement leads on, to what is known behind it
+  -- a simple statement leads on, to what is known after it
   known_simple : (s : StmtTree) (k : Position) → AreTyped s → HasCount k → IsReachable k.guard → paths.behind assigned_flow s no_locals ≡ Some (λ x. is_target s x || no_locals x) → (behind w s k).known ≡ known_after w.program w.body s k.known →
       IsKnown (Some (known_after w.program w.body s k.known)) (behind w s k)
   known_simple s k h c r e known = ((subst (λ o. IsPlaced o (behind w s k)) e (placed w s no_locals k h c (r, no_terms k.locals))).0, known)

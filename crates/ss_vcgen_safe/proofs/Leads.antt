@@ -1,4 +1,4 @@
--- From a position to those behind it: counters rise, obligations stay listed, and code that isn't reached adds only true premises.
+-- From a position to those after it: counters rise, obligations stay listed, and code that isn't reached adds only true premises.
 use Rattle.std.proofs.Common.{◌≡◌, ℕ, zero, suc, ◌≤◌, ◌+◌, List, [], ◌∷◌, ◌++◌, length, Bool, true, false, refl, sym, ◌∙◌, ap, subst, arith}
 use Rattle.std.specs.Prelude.{Option, Some, None, slice_set, if◌then◌else◌}
 use Rattle.ss_core.specs.declared.names.Kind.{Kind}
@@ -175,7 +175,7 @@ module _ (w : Walk) where
 
   -- ---- joins
 
-  -- Behind two sides of which none is reached.
+  -- After two sides of which none is reached.
   pub record LeadsBoth (first second k : Position) : Type 0 where
     pub rises : Rises second.next k.next
     pub listed : AreValid w.program.classes k.listed → AreValid w.program.classes second.listed

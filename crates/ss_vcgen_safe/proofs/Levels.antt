@@ -33,7 +33,7 @@ use Rattle.ss_vcgen_heaps.specs.Positions.{Walk, check, check_all, local_term}
 use Rattle.ss_vcgen_heaps.specs.Contracts.{conditions}
 use Rattle.ss_vcgen_heaps.specs.Obligations.{check_local, owned_are_full}
 use Rattle.ss_vcgen_safe.specs.Done.{IsDone}
-use Rattle.ss_vcgen_safe.proofs.BehindChanges.{unpack_behind, pack_behind}
+use Rattle.ss_vcgen_safe.proofs.AfterChanges.{unpack_after, pack_after}
 use Rattle.ss_vcgen_safe.proofs.Checked.{unpack_done, pack_done}
 use Rattle.ss_sound_outcomes.specs.Points.{Point, scene, entry_size}
 use Rattle.ss_sound_outcomes.specs.Outcomes.{with_store}
@@ -89,7 +89,7 @@ module _ (w : Walk) (before : List Object) (table : Table) (arguments : List Obj
       (subst (λ n. IsSteady cs n m t') (sym same.next) (steady_two cs k.next m (Unpack t) k.store o (λ m m' vs. refl) (steady_value cs k.next m k.store _ is.agrees.store_is.is) (steady_value cs k.next m o (standing v) term.is)))
       (unpack_sorted cs t k.store o is.agrees.store_is.sorted (subst (λ u. HasSort cs [] (element_sort u) o) class.2 term.sorted))
       done
-      (λ z e sound. unpack_behind cs m k.store p.store has o v t z stands e sound.store)
+      (λ z e sound. unpack_after cs m k.store p.store has o v t z stands e sound.store)
       (λ z g. g)
       (λ z e sound b. subst (λ u. IsTrueOf w.body.flags.ctor u (scene a (with_store z p))) (sym same.like.known) (later_known a (entry_size a) p z entered.body.flags is.sound b.reached.later k.known is.known))
       ends
@@ -143,7 +143,7 @@ module _ (w : Walk) (before : List Object) (table : Table) (arguments : List Obj
       (subst (λ n. IsSteady cs n m t') (sym same.next) (steady_two cs k.next m (Pack t) k.store o (λ m m' vs. refl) (steady_value cs k.next m k.store _ is.agrees.store_is.is) (steady_value cs k.next m o (standing v) term.is)))
       (pack_sorted cs t k.store o is.agrees.store_is.sorted (subst (λ u. HasSort cs [] (element_sort u) o) class.2 term.sorted))
       done
-      (λ z e sound. pack_behind cs m k.store p.store has (invariants_hold cs) o v t z stands e sound.store)
+      (λ z e sound. pack_after cs m k.store p.store has (invariants_hold cs) o v t z stands e sound.store)
       (λ z g. g)
       (λ z e sound b. subst (λ u. IsTrueOf w.body.flags.ctor u (scene a (with_store z p))) (sym same.like.known) (later_known a (entry_size a) p z entered.body.flags is.sound b.reached.later k.known is.known))
       ends

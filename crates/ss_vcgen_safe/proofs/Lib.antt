@@ -52,7 +52,7 @@ pub mod FormedEntries
 pub mod FormedPrograms
 pub mod Standing
 pub mod Checked
-pub mod BehindChanges
+pub mod AfterChanges
 pub mod Among
 pub mod ValuesOfParts
 pub mod KnownParts

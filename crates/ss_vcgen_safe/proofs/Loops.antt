@@ -25,7 +25,7 @@ use Rattle.ss_logic.specs.Values.{Table, Structure}
 use Rattle.ss_logic.specs.Formulas.{Formula}
 use Rattle.ss_logic.specs.Express.{said}
 use Rattle.ss_vcgen_heaps.specs.Positions.{Never, When, Position, Walk, check, check_all, holds_at, meant_at, evaluate, if_reached}
-use Rattle.ss_vcgen_heaps.specs.Obligations.{Loop, loop_of, frame_at_head, levels_at_head, check_head, at_head, exit_guard, into_body, behind_loop, behind, behind_all, AreValid}
+use Rattle.ss_vcgen_heaps.specs.Obligations.{Loop, loop_of, frame_at_head, levels_at_head, check_head, at_head, exit_guard, into_body, after_loop, behind, behind_all, AreValid}
 use Rattle.ss_sound_outcomes.specs.Points.{Activation, Point, scene, IsSound}
 use Rattle.ss_sound_outcomes.specs.Outcomes.{Has, Head, HoldsAtHead, IsTurn, head_of, AllSafely}
 use Rattle.ss_vcgen_safe.specs.At.{IsAlike, IsOn, activation, Agrees, IsAt, Rises, Leads}
@@ -147,12 +147,12 @@ module _ (w : Walk) (before : List Object) (table : Table) (arguments : List Val
       abbrev turned : Position
       turned = behind_all w body start
 
-      -- behind the body, at the head again
+      -- after the body, at the head again
       abbrev first : Position
       first = if_reached turned.guard (check_head w l turned) turned
 
       abbrev end : Position
-      end = behind_loop w l e tested turned
+      end = after_loop w l e tested turned
 
       -- ---- what a formed body says of the parts
 
@@ -294,7 +294,7 @@ module _ (w : Walk) (before : List Object) (table : Table) (arguments : List Val
             (subst (λ o. paths.where_reached ((assigned_check w.body).statement stmt) (at_end assigned_flow body (in_body assigned_flow e o)) ≡ true) is loop_assigned.4))) again
             (subst (λ (z : Position). AreValid cs z.listed) (where_reached turned.guard (check_head w l turned) turned (on_reachable turned.guard m3 (again.at.agrees.guard m3 (alike_self turned.next m3)))) valid_end)).0)
 
-        -- behind the loop
+        -- after the loop
         leave_goes : is_tested.v ≡ false → Q r
         leave_goes fails =
             let plain : is_literal_true e ≡ false = not_literal (is_literal_true e) (λ t. false≢true (sym fails ∙ ok_bools is_tested.v true (sym is_tested.is ∙ literal_value e t (scene a r)))) in

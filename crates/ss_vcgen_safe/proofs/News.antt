@@ -50,7 +50,7 @@ use Rattle.ss_vcgen_safe.proofs.Leads.{leads_evaluate_all, leads_assume, leads_w
 use Rattle.ss_vcgen_safe.proofs.PositionsStatements.{leads_settle_all, leads_keep, leads_ready, leads_constructed, leads_entry, leads_returned}
 use Rattle.ss_vcgen_safe.specs.Goes.{IsCoded, IsEntered, IsHere, EndsIn, Goes}
 use Rattle.ss_vcgen_safe.proofs.Puts.{put_arguments, known_agrees}
-use Rattle.ss_vcgen_safe.proofs.Behind.{later_known, here_behind}
+use Rattle.ss_vcgen_safe.proofs.Behind.{later_known, here_after}
 use Rattle.ss_vcgen_safe.specs.Stated.{IsStatedBody, IsTermFor, AreTermsFor}
 use Rattle.ss_vcgen_safe.proofs.Stated.{formed_stated}
 use Rattle.ss_vcgen_safe.proofs.Called.{kept_agrees, called_at}
@@ -159,8 +159,8 @@ module _ (w : Walk) (before : List Object) (table : Table) (arguments : List Obj
     abbrev there : Position
     there = positions.with_store (app (New t) (settled.store ∷ [])) typed
 
-    abbrev behind_new : List Meant → Option BodyTree → Position
-    behind_new ms c = keep x (o ∷ []) (constructed w at o c ms there)
+    abbrev after_new : List Meant → Option BodyTree → Position
+    after_new ms c = keep x (o ∷ []) (constructed w at o c ms there)
 
     abbrev object : ObjectValue
     object = value.Obj (length p.store)
@@ -171,11 +171,11 @@ module _ (w : Walk) (before : List Object) (table : Table) (arguments : List Obj
     abbrev point : Point
     point = with_store l p
 
-    valid_settled : (ms : List Meant) (c : Option BodyTree) → AreValid cs (behind_new ms c).listed → AreValid cs settled.listed
+    valid_settled : (ms : List Meant) (c : Option BodyTree) → AreValid cs (after_new ms c).listed → AreValid cs settled.listed
     valid_settled ms c v =
         (leads_assume w (equal (shape.type_of o) (class_term t)) settled).listed ((leads_with_store w (app (New t) (settled.store ∷ [])) typed).listed ((leads_constructed w at o c ms there).listed ((leads_keep w x (o ∷ []) (constructed w at o c ms there)).listed v)))
 
-    -- behind the constructor, the object ready
+    -- after the constructor, the object ready
     ready_agrees : (delayed : Bool) (j : Position) (m' : Structure) (z : List Object) → Agrees w before table m' j (with_store z p) → IsTermFor cs j.next m' o object → HasSort cs [] sort.Rest o → machine.IsGoodStore w.program (with_ready z object) → (delayed ≡ false → IsReady z object) →
         Agrees w before table m' (obligations.with_ready delayed o j) (with_store (with_ready z object) p)
     ready_agrees true j m' z g term sorted good_z whole =
@@ -190,8 +190,8 @@ module _ (w : Walk) (before : List Object) (table : Table) (arguments : List Obj
         (b : BodyTree) → constructor_of w.program t ≡ Some b → IsStatedBody cs b → b.flags.ctor ≡ true → fits_kept cs w.body x (Some (class_type t)) ≡ true → machine.IsGoodStore w.program l → Fits cs table l →
         (Q : Point → Type 0) → EndsIn w before table arguments (paths.behind assigned_flow st xs) m k (behind w st k) Q → ConstructsSafely a st Q p x (constructor_of w.program t) object vs l
     new_goes_on terms vs m1 are alike g stand b is stated ctor fits good_l fits_l Q ends =
-        let valid1 = subst (λ ms. AreValid cs (behind_new ms (constructor_of w.program t)).listed) are valid in
-        let valid2 = subst (λ c. AreValid cs (behind_new (map One terms) c).listed) is valid1 in
+        let valid1 = subst (λ ms. AreValid cs (after_new ms (constructor_of w.program t)).listed) are valid in
+        let valid2 = subst (λ c. AreValid cs (after_new (map One terms) c).listed) is valid1 in
         let first = next_term cs table settled.next m1 settled.store p.store g.store_is in
         let o_sorted : HasSort cs [] sort.Rest o = (refl, first.sorted) in
         let new_there = get_at p.store (new_object cs t (length p.store)) [] in
@@ -220,12 +220,12 @@ module _ (w : Walk) (before : List Object) (table : Table) (arguments : List Obj
               let g3 = ready_agrees b.flags.delayed back m2 z h.2 term o_sorted sound.store (λ undelayed. r.answer.whole ctor undelayed) in
               let last = subst (λ (n : Counters). IsTermFor cs n m2 o object) (sym (ready_same b.flags.delayed o back)) term in
               let g4 = kept_agrees w before table m2 whole (with_store z1 p) x object (Some (class_type t)) fits here.at.sound.locals.count (o ∷ []) (last, o_sorted) g3 in
-              let g5 = subst (λ c. Agrees w before table m2 (behind_new (map One terms) c) q) (sym is) g4 in
-              let g6 = subst (λ ms. Agrees w before table m2 (behind_new ms (constructor_of w.program t)) q) (sym are) g5 in
+              let g5 = subst (λ c. Agrees w before table m2 (after_new (map One terms) c) q) (sym is) g4 in
+              let g6 = subst (λ ms. Agrees w before table m2 (after_new ms (constructor_of w.program t)) q) (sym are) g5 in
               let up = rises_twice k.next (evaluate_all w es k).next settled.next (leads_evaluate_all w es k).rises (leads_settle_all w es (evaluate_all w es k)).rises in
               ends (λ y. is_target st y || xs y) m2 q refl (alike_twice k.next m m1 m2 alike (alike_lower k.next settled.next m1 m2 up h.1))
-              (here_behind w before table arguments xs m k p st refl coded here m2 q sound b_hind (put_arguments w.body x object p.locals coded.targets)
-              (known_agrees w before table m2 (behind_new (arguments_settled w es (evaluate_all w es k)) (constructor_of w.program t)) q (behind w st k).known g6)
+              (here_after w before table arguments xs m k p st refl coded here m2 q sound b_hind (put_arguments w.body x object p.locals coded.targets)
+              (known_agrees w before table m2 (after_new (arguments_settled w es (evaluate_all w es k)) (constructor_of w.program t)) q (behind w st k).known g6)
               (kept_true a p z1 entry.body.flags here.at.sound.locals.count x object (Some (class_type t)) fits coded.targets true (λ _ is_null. let no : ⊥ = cc in no) k.known
               (later_known a (entry_size a) p z1 entry.body.flags here.at.sound b_hind.reached.later k.known here.at.known))),
         ))

@@ -93,7 +93,7 @@ module _ (w : Walk) (before : List Object) (table : Table) (xs : ℕ → Bool) (
   pub known_local : (x : ℕ) → xs x ≡ true → is_known_local w k x ≡ true → IsNotNull (local_value (scene a p) x)
   known_local x h known = ⊎_elim (λ typed. at.assigned x h typed) (λ fact. at.known.facts x fact) (or_cases (is_non_null_type (local_type w x)) (k.known.facts x) known)
 
-  -- an object in a local, behind the check that it isn't null
+  -- an object in a local, after the check that it isn't null
   pub record LocalChecked (where_ : Place) (x : ℕ) : Type 0 where
     pub there : IsThere p.store (local_value (scene a p) x)
     pub agrees : Agrees w before table m (check_local w where_ x k) p

@@ -45,7 +45,7 @@ use Rattle.ss_vcgen_safe.specs.Values.{HasMeaning, IsEvaluated}
 use Rattle.ss_vcgen_safe.specs.Goes.{IsCoded, IsEntered, IsHere, EndsIn, Goes}
 use Rattle.ss_vcgen_safe.proofs.Evaluates.{good_at, evaluated, condition_at}
 use Rattle.ss_vcgen_safe.proofs.Puts.{put_arguments, known_agrees, put_agrees}
-use Rattle.ss_vcgen_safe.proofs.Behind.{here_behind}
+use Rattle.ss_vcgen_safe.proofs.Behind.{here_after}
 
 -- what holds of the value holds where it is the outcome
 pub has_value : (o : Outcome) (v : ObjectValue) (P : ObjectValue → Type 0) → o ≡ Ok v → P v → Has o P
@@ -110,9 +110,9 @@ module _ (w : Walk) (before : List Object) (table : Table) (arguments : List Obj
           (code_typed cs w.body e t.0 t.1 ∙ ap (λ (y : Ty). Some y) (bool_typed cs p.store t.0 v u t.2 vu))
           (v, has, ap as_bool vu))
 
-      goes_behind : IsEvaluated w before table xs m k p e → HasMeaning w m k e v → (Q : Point → Type 0) → EndsIn w before table arguments (paths.behind assigned_flow (AssignStmt at x e) xs) m k (behind w (AssignStmt at x e) k) Q →
+      goes_after : IsEvaluated w before table xs m k p e → HasMeaning w m k e v → (Q : Point → Type 0) → EndsIn w before table arguments (paths.behind assigned_flow (AssignStmt at x e) xs) m k (behind w (AssignStmt at x e) k) Q →
           GoesOn a (AssignStmt at x e) Q p (with_local (Some x) v p)
-      goes_behind ev means Q ends sound b =
+      goes_after ev means Q ends sound b =
           let st = AssignStmt at x e in
           let x' = meant_at w e k in
           let s = local_sort w x in
@@ -124,13 +124,13 @@ module _ (w : Walk) (before : List Object) (table : Table) (arguments : List Obj
           let g = put_agrees w before table z.m' d p x (new_term s there) v is_within here.at.sound.locals.count z.is z.sorted z.agrees in
           let alike = subst (λ n. IsAlike n m z.m') same.next z.alike in
           ends (λ y. is_target st y || xs y) z.m' q refl alike
-          (here_behind w before table arguments xs m k p st refl coded here z.m' q sound b (put_arguments w.body (Some x) v p.locals coded.targets)
+          (here_after w before table arguments xs m k p st refl coded here z.m' q sound b (put_arguments w.body (Some x) v p.locals coded.targets)
           (known_agrees w before table z.m' (set_local x (new_term s there) d) q (behind w st k).known g) known_behind)
 
     assigned_goes : (Q : Point → Type 0) → EndsIn w before table arguments (paths.behind assigned_flow (AssignStmt at x e) xs) m k (behind w (AssignStmt at x e) k) Q → Safely a (AssignStmt at x e) p Q
     assigned_goes Q ends =
         let ev = evaluated w before table entered.program xs m k p here.at e reads is_typed valid in
-        has_value (run.value_of e (scene a p)) ev.value (λ v. GoesOn a (AssignStmt at x e) Q p (with_local (Some x) v p)) ev.is (goes_behind ev.value ev.is ev ev.means Q ends)
+        has_value (run.value_of e (scene a p)) ev.value (λ v. GoesOn a (AssignStmt at x e) Q p (with_local (Some x) v p)) ev.is (goes_after ev.value ev.is ev ev.means Q ends)
 
   pub assign_goes : (at : Place) (x : ℕ) (e : ExprTree) (Q : Point → Type 0) → Goes w before table arguments (AssignStmt at x e) Q
   assign_goes at x e Q xs m k p coded here valid ends = assigned_goes at x e xs m k p coded here valid Q ends

@@ -59,7 +59,7 @@ module _ (w : Walk) (before : List Object) (table : Table) (p : Point) where
   AreArguments next m (e ∷ es) (x ∷ xs) (v ∷ vs) = IsArgument next m e x v × AreArguments next m es xs vs
   AreArguments next m es xs vs = ⊥
 
-  -- In some structure that is alike the position behind agrees, and each argument has its term.
+  -- In some structure that is alike the position after agrees, and each argument has its term.
   pub record AreSettled (m : Structure) (k : Position) (es : List ExprTree) (vs : List ObjectValue) : Type 0 where
     pub m' : Structure
     pub alike : IsAlike k.next m m'

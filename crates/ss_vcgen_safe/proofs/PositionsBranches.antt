@@ -1,4 +1,4 @@
--- The run at the sides of a test, and behind both.
+-- The run at the sides of a test, and after both.
 use Rattle.std.proofs.Common.{◌≡◌, ℕ, ◌+◌, List, length, Bool, true, false, inl, inr, sym, ◌∙◌, subst}
 use Rattle.ss_store_rules.specs.Store.{Object}
 use Rattle.ss_store_rules.specs.Locals.{local_types}
@@ -15,7 +15,7 @@ use Rattle.ss_vcgen_safe.proofs.Alike.{alike_self, alike_twice, alike_lower, sta
 use Rattle.ss_vcgen_safe.proofs.Sides.{skipped, first_taken, second_taken}
 use Rattle.ss_vcgen_safe.proofs.Ends.{first_end, join_agrees}
 
--- ---- what is known of null behind both sides
+-- ---- what is known of null after both sides
 
 known_first : (w : Walk) (b : Bool) (s : Setting) (m : Structure) (first second : Position) (g h : Guard) → IsOn g m → IsTrueOf b first.known s → IsTrueOf b (join_from g h w known_met first second).known s
 known_first w b s m first second Never h on is = absurd on
@@ -71,7 +71,7 @@ module _ (w : Walk) (before : List Object) (table : Table) where
           off = z.off;
         }
 
-  -- ---- behind both sides
+  -- ---- after both sides
 
   module _ (first second : Position) (m : Structure) (q : Point) (xs us : ℕ → Bool) (less : (x : ℕ) → us x ≡ true → xs x ≡ true) (terms : HaveTerms us (join w known_met first second).locals)
       (first_count : length first.locals ≡ length (local_types w.body)) (second_count : length second.locals ≡ length (local_types w.body)) where

@@ -1,4 +1,4 @@
--- Each statement leads from the position before it to the one behind it.
+-- Each statement leads from the position before it to the one after it.
 use Rattle.std.proofs.Common.{◌≡◌, ℕ, pos, ◌+◌, List, [], ◌∷◌, ◌++◌, map, Bool, true, false}
 use Rattle.std.specs.Prelude.{Option, Some, None, if◌then◌else◌}
 use Rattle.ss_core.specs.declared.names.Kind.TheVariants as kind
@@ -23,7 +23,7 @@ use Rattle.ss_logic.specs.Express.{Meant, One, Either, Says, said, element_sort}
 use Rattle.ss_logic.specs.Frames.{kept, grown}
 use Rattle.ss_vcgen_heaps.specs.Positions.{When, Never, Position, Walk, good, assume, assume_all, check, check_all, new_term, with_new, set_local, set_store, with_store, ended, local_term, site, meant_at, evaluate, evaluate_all, holds_at, define, with_term, term_for, settled, first_side, second_side, if_reached}
 use Rattle.ss_vcgen_heaps.specs.Contracts.{is_of_type, contract_context, no_result, conditions, frame_terms, called}
-use Rattle.ss_vcgen_heaps.specs.Obligations.{classes_of, local_sort, check_not_null, is_known_local, check_local, may_be_owned, may_be_joined, check_owners, owned_store, write, is_index, write_element, unpack, invariants_said, owned_are_full, pack, settle_all, arguments_settled, check_entry, result_term, with_result, assume_result, returned, keep, call, check_receiver, with_this, call_with, with_ready, constructed, construct, new_array, arguments_at, result_settled, settle_result, frame_formula, evaluate_result, return_with, Loop, loop_of, frame_at_head, levels_at_head, check_head, renew_from, renewed, types_from, at_head, exit_guard, into_body, behind_loop, with_known, behind, behind_all}
+use Rattle.ss_vcgen_heaps.specs.Obligations.{classes_of, local_sort, check_not_null, is_known_local, check_local, may_be_owned, may_be_joined, check_owners, owned_store, write, is_index, write_element, unpack, invariants_said, owned_are_full, pack, settle_all, arguments_settled, check_entry, result_term, with_result, assume_result, returned, keep, call, check_receiver, with_this, call_with, with_ready, constructed, construct, new_array, arguments_at, result_settled, settle_result, frame_formula, evaluate_result, return_with, Loop, loop_of, frame_at_head, levels_at_head, check_head, renew_from, renewed, types_from, at_head, exit_guard, into_body, after_loop, with_known, behind, behind_all}
 use Rattle.ss_vcgen_safe.specs.At.{IsOff, Leads}
 use Rattle.ss_vcgen_safe.proofs.Leads.{leads_self, leads_twice, leads_known, leads_set_store, leads_set_local, leads_ended, leads_new, leads_assume, leads_assume_all, leads_check, leads_check_all, leads_check_unless, leads_evaluate, leads_evaluate_all, leads_with_store, leads_define, leads_with_term, leads_settled, leads_first, leads_second, leads_if_reached, leads_joined}
 
@@ -275,7 +275,7 @@ module _ (w : Walk) where
       one_of false = h
 
   -- over the body of a loop, from its test
-  pub leads_loop : (l : Loop) (e : ExprTree) (k turned : Position) → Leads w (into_body w e k) turned → Leads w k (behind_loop w l e k turned)
+  pub leads_loop : (l : Loop) (e : ExprTree) (k turned : Position) → Leads w (into_body w e k) turned → Leads w k (after_loop w l e k turned)
   leads_loop l e k turned x =
       let evaluated = evaluate w e k in
       let n = evaluated.next.truths + 1 in
@@ -283,7 +283,7 @@ module _ (w : Walk) where
       let f = said (meant_at w e k) in
       let tested = known_tested e true k.known in
       let start = first_side f tested evaluated in
-      leads_twice w k evaluated (behind_loop w l e k turned) (leads_evaluate w e k)
+      leads_twice w k evaluated (after_loop w l e k turned) (leads_evaluate w e k)
       (leads_second w f tested (known_tested e false k.known) (exit_guard e n) evaluated end (λ m h. exit_off e n m h)
       (leads_twice w start turned end x (leads_if_reached w turned.guard turned (check_head w l turned) turned (leads_check_head l turned) (leads_self w turned))))
 
@@ -353,7 +353,7 @@ module _ (w : Walk) where
         let tested = behind_all w prelude head in
         let start = into_body w e tested in
         let turned = behind_all w body start in
-        let end = behind_loop w l e tested turned in
+        let end = after_loop w l e tested turned in
         leads_twice w k checked (if_reached tested.guard end tested) (leads_check_head l k)
         (leads_twice w checked head (if_reached tested.guard end tested) (leads_at_head l checked)
         (leads_twice w head tested (if_reached tested.guard end tested) (leads_all prelude head) (leads_if_reached w tested.guard tested end tested (leads_loop l e tested turned (leads_all body start)) (leads_self w tested))))

@@ -33,7 +33,7 @@ use Rattle.ss_logic_means.specs.Sorts.{HasSort}
 use Rattle.ss_vcgen_heaps.specs.Positions.{Walk, with_store, local_term}
 use Rattle.ss_vcgen_heaps.specs.Obligations.{behind}
 use Rattle.ss_vcgen_safe.specs.Done.{HasStore}
-use Rattle.ss_vcgen_safe.proofs.BehindChanges.{ready_behind}
+use Rattle.ss_vcgen_safe.proofs.AfterChanges.{ready_after}
 use Rattle.ss_sound_outcomes.specs.Points.{Activation, Point, scene, IsSound, entry_size}
 use Rattle.ss_sound_outcomes.specs.Outcomes as outcomes
 use Rattle.ss_vcgen_safe.specs.At.{activation}
@@ -93,7 +93,7 @@ module _ (w : Walk) (before : List Object) (table : Table) (arguments : List Obj
       (steady_two cs k.next m MakeReady k.store o (λ m m' vs. refl) (steady_value cs k.next m k.store _ is.agrees.store_is.is) (steady_value cs k.next m o (standing v) term.is))
       (ready_sorted cs k.store o is.agrees.store_is.sorted (subst (λ u. HasSort cs [] (element_sort u) o) (this_type w.body instance_) term.sorted))
       (z, refl)
-      (λ y e sound. let same : z ≡ y = cc in subst (λ u. HasStore cs m (app MakeReady (k.store ∷ o ∷ [])) u) same (ready_behind cs m k.store p.store has o v (term.is m self) (subst (λ u. IsGood cs (invariants_hold cs) u) (sym same) sound.store)))
+      (λ y e sound. let same : z ≡ y = cc in subst (λ u. HasStore cs m (app MakeReady (k.store ∷ o ∷ [])) u) same (ready_after cs m k.store p.store has o v (term.is m self) (subst (λ u. IsGood cs (invariants_hold cs) u) (sym same) sound.store)))
       (λ y g. known_agrees w before table m (with_store (app MakeReady (k.store ∷ o ∷ [])) k) (outcomes.with_store y p) (behind w (ReadyStmt at) k).known g)
       (λ y e sound b.
       let n = entry_size a in

@@ -36,7 +36,7 @@ set_other (z ∷ xs) zero t (suc y) n = refl
 set_other (z ∷ xs) (suc x) t zero n = refl
 set_other (z ∷ xs) (suc x) t (suc y) n = set_other xs x t y (λ e. n (ap suc e))
 
--- what is left of a list behind a place
+-- what is left of a list after a place
 abbrev IsRest : List Ty → ℕ → List Ty → Type 0
 IsRest all x rest = (i : ℕ) → slice_get rest i ≡ slice_get all (i + x)
 

@@ -1,4 +1,4 @@
--- Behind a call: what its contract allows makes true what is assumed of the new store and of the result.
+-- After a call: what its contract allows makes true what is assumed of the new store and of the result.
 use Rattle.std.proofs.Common.{◌≡◌, ℕ, suc, List, [], ◌∷◌, ◌++◌, length, map, true, Some, refl, sym, ◌∙◌, ap, subst, arith}
 use Rattle.std.specs.Prelude.{slice_get, option_to_list, Option, None, is_some, if◌then◌else◌}
 use Rattle.std.specs.List.{list_all}
@@ -163,7 +163,7 @@ module _ (w : Walk) (before : List Object) (table : Table) (chain : IsChain w.pr
         conditions_checked w before table m p kind.Precondition at b.entry (contract_of cs b EntryTerms) (setting cs p.store p.store (locals_at_entry b vs)) k
         (λ m' a. all_mean cs m' b EntryTerms EntryValues (entry_contract m' a) _ (ap (λ s. setting cs s s (locals_at_entry b vs)) (objects_now m' a)) b.entry stated.entry) valid g
 
-    -- ---- behind it
+    -- ---- after it
 
     module _ (into : Option ℕ) (z : List Object) (v : ObjectValue) (fits : Fits cs table z) (r : IsReturn (activation w before table) b (ToCall into) vs p.store z v) where
       abbrev hz : Heap
@@ -294,14 +294,14 @@ module _ (w : Walk) (before : List Object) (table : Table) (chain : IsChain w.pr
             let here : IsAlike j.next m2 m' = subst (λ (n : Counters). IsAlike n m2 m') like.next a in
             subst (λ (s : Term). Hold cs m' (is_of_type true s t x)) (sym (like.like.store ∙ store_is)) (type_is_true m' (up m' here) (zs m' here) t e x (is m' here []))) conditions_agree
 
-      -- what is known behind the call, where this is the type of the result
+      -- what is known after the call, where this is the type of the result
       abbrev returned_as : Option Ty → Position
       returned_as o =
           let result = result_term o (with_new sort.Store k) in
           let called = assume_all (kept cs (frame_terms cs b k.store zt ms []) ∷ grown k.store zt ∷ []) (set_store zt (with_result o (with_new sort.Store k))) in
           assume_result o result (assume_all (conditions b.exit (contract_context cs b zt k.store ms (map One result))) (assume (good zt) called))
 
-      -- in some structure that is alike the position behind the call agrees, and the result has its value there
+      -- in some structure that is alike the position after the call agrees, and the result has its value there
       pub record HasReturned (o : Option Ty) : Type 0 where
         pub m' : Structure
         pub alike : IsAlike k.next m m'
@@ -356,6 +356,6 @@ module _ (w : Walk) (before : List Object) (table : Table) (chain : IsChain w.pr
             result = (subst (λ (n : Counters). IsTermFor cs n n2.m' x v) (sym same) (record { sorted = refl; is = n2.is }), (refl, refl));
           }
 
-      -- behind a call that its contract allows the position agrees
+      -- after a call that its contract allows the position agrees
       pub call_returned : HasReturned b.result
       call_returned = has_returned b.result refl

@@ -135,8 +135,8 @@ module _ (w : Walk) (before : List Object) (table : Table) (arguments : List Obj
       sort_is : element_sort (code_type cs b e) ≡ element_sort b.result
       sort_is = fitting_sort cs (code_type cs b e) t typed ∙ ap element_sort (sym is)
 
-      abbrev behind_it : Position
-      behind_it = with_term (element_sort b.result) (meant_at w e there) there
+      abbrev after_it : Position
+      after_it = with_term (element_sort b.result) (meant_at w e there) there
 
       abbrev result_is : List Meant
       result_is = result_settled w (Some e) there
@@ -152,19 +152,19 @@ module _ (w : Walk) (before : List Object) (table : Table) (arguments : List Obj
       with_result : (v : ObjectValue) → run.value_of e (scene a p) ≡ Ok v → IsSettled w before table xs m p there e (element_sort b.result) v → Leaves v
       with_result v has z =
           let m' = z.term.m' in
-          let here' : IsHere w before table arguments xs m' behind_it p = record { at = z.at; assigned = here.assigned; same = here.same } in
-          left_at at m' behind_it here' result_is v (value_may v has)
+          let here' : IsHere w before table arguments xs m' after_it p = record { at = z.at; assigned = here.assigned; same = here.same } in
+          left_at at m' after_it here' result_is v (value_may v has)
           (λ m'' alike.
-          exit_arguments cs m'' b (arguments_at w behind_it) arguments (arguments_are w before table arguments entered xs m' behind_it p here' m'' alike) t is _ v
+          exit_arguments cs m'' b (arguments_at w after_it) arguments (arguments_are w before table arguments entered xs m' after_it p here' m'' alike) t is _ v
           (term_argument cs m'' t (term_for (element_sort b.result) (meant_at w e there) there) v (subst (λ (o : Option Ty). HasSort cs [] (element_sort o) (term_for (element_sort b.result) (meant_at w e there) there)) is z.term.sorted) (z.term.is m'' alike [])))
           valid
 
       evaluated_valid : AreValid cs there.listed
       evaluated_valid =
-          let met = met_at at behind_it result_is in
-          let c = contract_context cs b behind_it.store w.entry (arguments_at w behind_it) result_is in
+          let met = met_at at after_it result_is in
+          let c = contract_context cs b after_it.store w.entry (arguments_at w after_it) result_is in
           (leads_with_term w (element_sort b.result) (meant_at w e there) there).listed
-          ((leads_check_all w kind.Postcondition at (conditions b.exit c) behind_it).listed ((leads_check w kind.Frame at (frame_formula w [] met) met).listed valid))
+          ((leads_check_all w kind.Postcondition at (conditions b.exit c) after_it).listed ((leads_check w kind.Frame at (frame_formula w [] met) met).listed valid))
 
       -- a return of a result
       result_return : Has (run.value_of e (scene a p)) Leaves

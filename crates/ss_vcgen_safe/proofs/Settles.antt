@@ -42,7 +42,7 @@ module _ (w : Walk) (before : List Object) (table : Table) (xs : ℕ → Bool) (
   denoted k (e ∷ es) [] h = h
   denoted k (e ∷ es) (v ∷ vs) h = (record { sorted = h.0.sorted; denotes = h.0.is; of = h.0.of }, denoted k es vs h.1)
 
-  -- In some structure that is alike the run is behind the position at which each of these has a term with its value.
+  -- In some structure that is alike the run is after the position at which each of these has a term with its value.
   pub record AreSettled (k : Position) (es : List ExprTree) (vs : List ObjectValue) : Type 0 where
     pub m' : Structure
     pub alike : IsAlike k.next m m'
@@ -54,7 +54,7 @@ module _ (w : Walk) (before : List Object) (table : Table) (xs : ℕ → Bool) (
       let z = settled_at w before table p es vs k m is.agrees (denoted k es vs mean) in
       record { m' = z.m'; alike = z.alike; at = at_like w before table xs m z.m' k (settle_all w es k) p (like_settle_all w es k) z.agrees is; are = z.are }
 
-  -- The meaning has a term with the value in some structure that is alike, and there the run is behind.
+  -- The meaning has a term with the value in some structure that is alike, and there the run is after.
   pub record IsSettled (k : Position) (e : ExprTree) (s : Sort) (v : ObjectValue) : Type 0 where
     pub term : HasTerm w before table m k (with_term s (meant_at w e k) k) p s (term_for s (meant_at w e k) k) (standing v)
     pub at : IsAt w before table xs term.m' (with_term s (meant_at w e k) k) p

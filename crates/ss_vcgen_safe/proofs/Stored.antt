@@ -1,4 +1,4 @@
--- A position behind a change of the store, where the term of the change stands for the store of the point behind.
+-- A position after a change of the store, where the term of the change stands for the store of the point after.
 use Rattle.std.proofs.Common.{◌≡◌, ℕ, List, [], ◌∷◌, Bool, true, ◌||◌, refl, sym, ◌∙◌, ap, subst}
 use Rattle.std.specs.Prelude.{Some, Result, Ok, Err}
 use Rattle.ss_core.specs.declared.names.Kind.{Kind}
@@ -18,13 +18,13 @@ use Rattle.ss_vcgen_heaps.specs.Positions as positions
 use Rattle.ss_vcgen_heaps.specs.Obligations.{behind}
 use Rattle.ss_vcgen_safe.specs.Done.{HasStore, IsDone}
 use Rattle.ss_vcgen_safe.proofs.Standing.{has_objects, is_good}
-use Rattle.ss_sound_outcomes.specs.Points.{Point, scene, IsSound, IsBehind}
+use Rattle.ss_sound_outcomes.specs.Points.{Point, scene, IsSound, IsAfter}
 use Rattle.ss_sound_outcomes.specs.Outcomes.{Has, GoesOn, Changes, with_store}
 use Rattle.ss_vcgen_safe.specs.At.{IsAlike, Stays, HasValue, IsStore, activation, Agrees}
 use Rattle.ss_vcgen_safe.proofs.Alike.{alike_self}
 use Rattle.ss_vcgen_safe.proofs.Keeps.{assumed}
 use Rattle.ss_vcgen_safe.specs.Goes.{IsCoded, IsHere, EndsIn}
-use Rattle.ss_vcgen_safe.proofs.Behind.{here_behind}
+use Rattle.ss_vcgen_safe.proofs.Behind.{here_after}
 
 -- ---- outcomes
 
@@ -111,15 +111,15 @@ module _ (w : Walk) (before : List Object) (table : Table) (m : Structure) (k : 
 
 module _ (w : Walk) (before : List Object) (table : Table) (arguments : List ObjectValue) (xs : ℕ → Bool) (m : Structure) (k : Position) (p : Point) (s : StmtTree) (simple : is_simple s ≡ true) (coded : IsCoded w xs k.known s)
     (here : IsHere w before table arguments xs m k p) where
-  -- A statement that changes the store, and assigns nothing: k' is behind its checks.
+  -- A statement that changes the store, and assigns nothing: k' is after its checks.
   pub store_goes : (m' : Structure) (k' : Position) (t : Term) (r : Result (List Object) Kind) (Q : Point → Type 0) → IsAlike k.next m m' → Agrees w before table m' k' p → IsSteady w.program.classes k'.next m' t → HasSort w.program.classes [] sort.Store t → IsDone r →
       ((z : List Object) → r ≡ Ok z → IsSound (activation w before table) (with_store z p) → HasStore w.program.classes m' t z) →
       ((z : List Object) → Agrees w before table m' (positions.with_store t k') (with_store z p) → Agrees w before table m' (behind w s k) (with_store z p)) →
-      ((z : List Object) → r ≡ Ok z → IsSound (activation w before table) (with_store z p) → IsBehind (activation w before table) s p (with_store z p) → IsTrueOf w.body.flags.ctor (behind w s k).known (scene (activation w before table) (with_store z p))) →
+      ((z : List Object) → r ≡ Ok z → IsSound (activation w before table) (with_store z p) → IsAfter (activation w before table) s p (with_store z p) → IsTrueOf w.body.flags.ctor (behind w s k).known (scene (activation w before table) (with_store z p))) →
       EndsIn w before table arguments (Some (λ x. is_target s x || xs x)) m k (behind w s k) Q → Changes (activation w before table) s Q p r
   store_goes m' k' t r Q alike agrees steady sorted done has rebuilt known ends =
       has_done r (λ z. GoesOn (activation w before table) s Q p (with_store z p)) done.0 done.1
       (λ sound b.
       let z = done.0 in
       let g = rebuilt z (stored w before table m' k' p t z steady sorted (has z done.1 sound) agrees) in
-      ends (λ x. is_target s x || xs x) m' (with_store z p) refl alike (here_behind w before table arguments xs m k p s simple coded here m' (with_store z p) sound b (λ x h. refl) g (known z done.1 sound b)))
+      ends (λ x. is_target s x || xs x) m' (with_store z p) refl alike (here_after w before table arguments xs m k p s simple coded here m' (with_store z p) sound b (λ x h. refl) g (known z done.1 sound b)))

@@ -1,4 +1,4 @@
--- Operands of a change: each gets a term, at positions one behind the other.
+-- Operands of a change: each gets a term, at positions one after the other.
 use Rattle.std.proofs.Common.{◌≡◌, ℕ, List, [], Bool, true, false, Ok, refl, sym, ◌∙◌, ap, subst}
 use Rattle.std.specs.Prelude.{Option, Some, is_some}
 use Rattle.ss_core.specs.declared.names.Kind.TheVariants as kind

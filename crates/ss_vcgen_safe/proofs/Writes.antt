@@ -33,7 +33,7 @@ use Rattle.ss_vcgen_heaps.specs.Positions.{Position, Walk, check, meant_at, eval
 use Rattle.ss_vcgen_heaps.specs.Positions as positions
 use Rattle.ss_vcgen_heaps.specs.Obligations.{check_not_null, check_owners, owned_store, behind}
 use Rattle.ss_vcgen_safe.specs.Done.{HasStore, IsDone}
-use Rattle.ss_vcgen_safe.proofs.BehindChanges.{write_behind}
+use Rattle.ss_vcgen_safe.proofs.AfterChanges.{write_after}
 use Rattle.ss_vcgen_safe.proofs.Checked.{write_done}
 use Rattle.ss_sound_outcomes.specs.Points.{Point, scene, entry_size}
 use Rattle.ss_sound_outcomes.specs.Outcomes.{Has, Changes, with_store}
@@ -145,7 +145,7 @@ module _ (w : Walk) (before : List Object) (table : Table) (arguments : List Obj
       (λ z d sound.
       subst (λ n. HasStore cs m4 (app (Set f) (owned_store n k4.store o t v ∷ o ∷ v ∷ [])) z) field.mark_is
       (subst (λ n. HasStore cs m4 (app (Set f) (owned_store (field_mark cs f) k4.store o n v ∷ o ∷ v ∷ [])) z) field.class_is
-      (write_behind cs m4 k4.store p.store has o v ev_e.value f ev_u.value z (is_o m4 here4) (is_v m4 here4) d (field_not_null cs formed.chain f field.field field.there) typed_u sound.store)))
+      (write_after cs m4 k4.store p.store has o v ev_e.value f ev_u.value z (is_o m4 here4) (is_v m4 here4) d (field_not_null cs formed.chain f field.field field.there) typed_u sound.store)))
       (λ z g. known_agrees w before table m4 (positions.with_store new k7) (with_store z p) (behind w st k).known g)
       (λ z d sound l. known_written a p e f ev_e.value ev_u.value z k.known ev_e.is d not_null (later_known a (entry_size a) p z entered.body.flags here.at.sound l.reached.later k.known here.at.known))
       ends))

@@ -104,7 +104,7 @@ pub record IsAt (w : Walk) (before : List Object) (table : Table) (xs : ℕ → 
   pub terms : HaveTerms xs k.locals
   pub sound : IsSound (activation w before table) p
 
--- ---- from a position to one behind it
+-- ---- from a position to one after it
 
 -- the counters only rise
 abbrev pub Rises : Counters → Counters → Type 0

@@ -17,6 +17,6 @@ pub record HasStore (cs : List ClassTree) (m : Structure) (t : Term) (s : List O
   pub stands : StandsFor cs m t (store heap)
   pub is : IsStoreOf cs m.table heap s
 
--- the checks of the change hold: there is a store behind
+-- the checks of the change hold: there is a store after
 abbrev pub IsDone : Result (List Object) Kind → Type 0
 IsDone r = (z : List Object) × (r ≡ Ok z)

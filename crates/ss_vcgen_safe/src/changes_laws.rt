@@ -1,4 +1,4 @@
-// Where the formulas that are checked of a change are true, the change is done, and its term stands for the store behind.
+// Where the formulas that are checked of a change are true, the change is done, and its term stands for the store after.
 
 ghost use Rattle.std.specs.Prelude.{◌≡◌, ℕ, ℤ, pos, List, [], ◌∷◌, length, true, Ok, Some, slice_get};
 ghost use Rattle.ss_core.specs.declared.names.Mark.TheVariants as mark;
@@ -67,7 +67,7 @@ pub fn a_checked_array_is_done()
     ensures { (cs : List ClassTree) (m : Structure) (s : Term) (l : List Object) → HasStore cs m s l → (i : Term) (t : ℕ) (n : ℤ) → StandsFor cs m i (whole n) → True cs m [] (at_most (number (pos 0)) i) → IsDone (new_array_of l t n) }
 {}
 
-/// Behind a change that is done its term has the store that it gives, where that is good. So it is with each of the following.
+/// After a change that is done its term has the store that it gives, where that is good. So it is with each of the following.
 pub fn the_term_is_made_ready()
     ensures { (cs : List ClassTree) (m : Structure) (s : Term) (l : List Object) → HasStore cs m s l → (o : Term) (v : ObjectValue) → StandsFor cs m o (standing v) → IsGood cs (invariants_hold cs) (with_ready l v) → HasStore cs m (app MakeReady (s ∷ o ∷ [])) (with_ready l v) }
 {}

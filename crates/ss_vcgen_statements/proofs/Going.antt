@@ -32,10 +32,10 @@ module _ (w : Forms → Walk) (s : Builder) (all : CodeTree) where
   pub all_gone : (t : Builder) → Along s t (λ b k. behind_all (w b) all k) (λ b k. behind_all (w b) NoCode k) → Becomes s t (λ b. behind_all (w b) all (position_at b s))
   all_gone t a = all_along s t (λ b k. behind_all (w b) all k) (λ b k. behind_all (w b) NoCode k) (λ b k. refl) a
 
-  -- behind a position that isn't reached nothing is told
-  never_behind : (v : Walk) (rest : CodeTree) (k : Position) → k.guard ≡ Never → behind_all v rest k ≡ k
-  never_behind v NoCode k h = refl
-  never_behind v (Then st rest) k h = ap (λ g. if_reached g (behind_all v rest (behind v st k)) k) h
+  -- after a position that isn't reached nothing is told
+  never_after : (v : Walk) (rest : CodeTree) (k : Position) → k.guard ≡ Never → behind_all v rest k ≡ k
+  never_after v NoCode k h = refl
+  never_after v (Then st rest) k h = ap (λ g. if_reached g (behind_all v rest (behind v st k)) k) h
 
   pub never_gone : (t : Builder) (rest : CodeTree) → guard_of t.guard ≡ Never → Along s t (λ b k. behind_all (w b) all k) (λ b k. behind_all (w b) rest k) → Becomes s t (λ b. behind_all (w b) all (position_at b s))
-  never_gone t rest h a = along_end s t (λ b k. behind_all (w b) all k) (λ b k. behind_all (w b) rest k) (λ b k. never_behind (w b) rest (position_at b t) h) a
+  never_gone t rest h a = along_end s t (λ b k. behind_all (w b) all k) (λ b k. behind_all (w b) rest k) (λ b k. never_after (w b) rest (position_at b t) h) a

@@ -19,7 +19,7 @@ use Rattle.ss_core.specs.declared.expr.Expr.TheOpen as shape
 use Rattle.ss_core.specs.declared.expr.Expr.TheOpen.{Link-F, Step-F}
 use Rattle.ss_core.specs.Tree.{ExprTree, BinaryExpr, IsExpr, AsExpr, FieldExpr, ElementExpr, LengthExpr}
 use Rattle.ss_core.specs.View.{Behind, grouped, expr, expr_step, link_step, step_step}
-use Rattle.ss_core.specs.Parts.{link_behind, step_behind, chain_front, path_front}
+use Rattle.ss_core.specs.Parts.{link_after, step_after, chain_front, path_front}
 
 -- ---- the trees of a chain and of a path
 
@@ -31,34 +31,34 @@ path_is p first steps = ap expr (sym (rolls-Path p first steps)) ∙ fold-roll-E
 
 -- ---- what a link or a step makes
 
-pub operation_is : (op : Operator) (b : Expr) (p : Place) (e : ExprTree) → link_behind (link.Operation op b) p e ≡ BinaryExpr p op e (expr b)
-operation_is op b p e = ap (λ (l : Link). link_behind l p e) (sym (link.rolls-Operation op b)) ∙ ap (λ (f : Behind). f p e) (fold-roll-Link ExprTree Behind Behind expr_step link_step step_step (shape.Operation op b))
+pub operation_is : (op : Operator) (b : Expr) (p : Place) (e : ExprTree) → link_after (link.Operation op b) p e ≡ BinaryExpr p op e (expr b)
+operation_is op b p e = ap (λ (l : Link). link_after l p e) (sym (link.rolls-Operation op b)) ∙ ap (λ (f : Behind). f p e) (fold-roll-Link ExprTree Behind Behind expr_step link_step step_step (shape.Operation op b))
 
-pub is_is : (t : ClassId) (p : Place) (e : ExprTree) → link_behind (link.Is t) p e ≡ IsExpr p e t.0
-is_is t p e = ap (λ (l : Link). link_behind l p e) (sym (link.rolls-Is t)) ∙ ap (λ (f : Behind). f p e) (fold-roll-Link ExprTree Behind Behind expr_step link_step step_step (shape.Is t))
+pub is_is : (t : ClassId) (p : Place) (e : ExprTree) → link_after (link.Is t) p e ≡ IsExpr p e t.0
+is_is t p e = ap (λ (l : Link). link_after l p e) (sym (link.rolls-Is t)) ∙ ap (λ (f : Behind). f p e) (fold-roll-Link ExprTree Behind Behind expr_step link_step step_step (shape.Is t))
 
-pub as_is : (t : ClassId) (p : Place) (e : ExprTree) → link_behind (link.As t) p e ≡ AsExpr p e t.0
-as_is t p e = ap (λ (l : Link). link_behind l p e) (sym (link.rolls-As t)) ∙ ap (λ (f : Behind). f p e) (fold-roll-Link ExprTree Behind Behind expr_step link_step step_step (shape.As t))
+pub as_is : (t : ClassId) (p : Place) (e : ExprTree) → link_after (link.As t) p e ≡ AsExpr p e t.0
+as_is t p e = ap (λ (l : Link). link_after l p e) (sym (link.rolls-As t)) ∙ ap (λ (f : Behind). f p e) (fold-roll-Link ExprTree Behind Behind expr_step link_step step_step (shape.As t))
 
-pub field_is : (f : FieldId) (p : Place) (e : ExprTree) → step_behind (step.Field f) p e ≡ FieldExpr p e f.0
-field_is f p e = ap (λ (l : Step). step_behind l p e) (sym (step.rolls-Field f)) ∙ ap (λ (g : Behind). g p e) (fold-roll-Step ExprTree Behind Behind expr_step link_step step_step (shape.Field f))
+pub field_is : (f : FieldId) (p : Place) (e : ExprTree) → step_after (step.Field f) p e ≡ FieldExpr p e f.0
+field_is f p e = ap (λ (l : Step). step_after l p e) (sym (step.rolls-Field f)) ∙ ap (λ (g : Behind). g p e) (fold-roll-Step ExprTree Behind Behind expr_step link_step step_step (shape.Field f))
 
-pub element_is : (i : Expr) (p : Place) (e : ExprTree) → step_behind (step.Element i) p e ≡ ElementExpr p e (expr i)
-element_is i p e = ap (λ (l : Step). step_behind l p e) (sym (step.rolls-Element i)) ∙ ap (λ (g : Behind). g p e) (fold-roll-Step ExprTree Behind Behind expr_step link_step step_step (shape.Element i))
+pub element_is : (i : Expr) (p : Place) (e : ExprTree) → step_after (step.Element i) p e ≡ ElementExpr p e (expr i)
+element_is i p e = ap (λ (l : Step). step_after l p e) (sym (step.rolls-Element i)) ∙ ap (λ (g : Behind). g p e) (fold-roll-Step ExprTree Behind Behind expr_step link_step step_step (shape.Element i))
 
-pub length_is : (p : Place) (e : ExprTree) → step_behind step.Length p e ≡ LengthExpr p e
-length_is p e = ap (λ (l : Step). step_behind l p e) (sym step.rolls-Length) ∙ ap (λ (g : Behind). g p e) (fold-roll-Step ExprTree Behind Behind expr_step link_step step_step shape.Length)
+pub length_is : (p : Place) (e : ExprTree) → step_after step.Length p e ≡ LengthExpr p e
+length_is p e = ap (λ (l : Step). step_after l p e) (sym step.rolls-Length) ∙ ap (λ (g : Behind). g p e) (fold-roll-Step ExprTree Behind Behind expr_step link_step step_step shape.Length)
 
 pub record LinkShape (l : Link) : Type 0 where
   pub shape : Link-F ExprTree Behind Behind
-  pub is : link_behind l ≡ link_step shape
+  pub is : link_after l ≡ link_step shape
 
 pub link_shape : (l : Link) → LinkShape l
 link_shape l = record { shape = _; is = fold_out-Link ExprTree Behind Behind expr_step link_step step_step l }
 
 pub record StepShape (l : Step) : Type 0 where
   pub shape : Step-F ExprTree Behind Behind
-  pub is : step_behind l ≡ step_step shape
+  pub is : step_after l ≡ step_step shape
 
 pub step_shape : (l : Step) → StepShape l
 step_shape l = record { shape = _; is = fold_out-Step ExprTree Behind Behind expr_step link_step step_step l }
@@ -67,11 +67,11 @@ step_shape l = record { shape = _; is = fold_out-Step ExprTree Behind Behind exp
 
 pub chain_all : {X : Type 0} (f : ExprTree → X) (x : X) → ((s : Link-F ExprTree Behind Behind) (p : Place) (t : ExprTree) → f (link_step s p t) ≡ x) → (p : Place) (t : ExprTree) (l : Link) (ls : List Link) → f (chain_front p t (l ∷ ls)) ≡ x
 chain_all f x h p t l [] = ap (λ (b : Behind). f (b p t)) (link_shape l).is ∙ h (link_shape l).shape p t
-chain_all f x h p t l (m ∷ ls) = chain_all f x h p (link_behind l p t) m ls
+chain_all f x h p t l (m ∷ ls) = chain_all f x h p (link_after l p t) m ls
 
 pub path_all : {X : Type 0} (f : ExprTree → X) (x : X) → ((s : Step-F ExprTree Behind Behind) (p : Place) (t : ExprTree) → f (step_step s p t) ≡ x) → (p : Place) (t : ExprTree) (l : Step) (ls : List Step) → f (path_front p t (l ∷ ls)) ≡ x
 path_all f x h p t l [] = ap (λ (b : Behind). f (b p t)) (step_shape l).is ∙ h (step_shape l).shape p t
-path_all f x h p t l (m ∷ ls) = path_all f x h p (step_behind l p t) m ls
+path_all f x h p t l (m ∷ ls) = path_all f x h p (step_after l p t) m ls
 
 some_length : (n : ℕ) → n ≡ 0 → false ≡ (n == 0) → ⊥
 some_length n e h = true≢false (sym (h ∙ ap (λ k. k == 0) e))
@@ -106,16 +106,16 @@ pub map_more : {X Y : Type 0} (f : X → Y) (xs : List X) (x : X) → map f (xs 
 map_more f [] x = refl
 map_more f (y ∷ xs) x = ap (λ z. f y ∷ z) (map_more f xs x)
 
-pub front_more : (p : Place) (e : ExprTree) (ls : List Link) (l : Link) → chain_front p e (ls ++ l ∷ []) ≡ link_behind l p (chain_front p e ls)
-front_more p e ls l = ap (grouped p e) (map_more link_behind ls l) ∙ grouped_more p e (map link_behind ls) (link_behind l)
+pub front_more : (p : Place) (e : ExprTree) (ls : List Link) (l : Link) → chain_front p e (ls ++ l ∷ []) ≡ link_after l p (chain_front p e ls)
+front_more p e ls l = ap (grouped p e) (map_more link_after ls l) ∙ grouped_more p e (map link_after ls) (link_after l)
 
-pub path_more : (p : Place) (e : ExprTree) (ls : List Step) (l : Step) → path_front p e (ls ++ l ∷ []) ≡ step_behind l p (path_front p e ls)
-path_more p e ls l = ap (grouped p e) (map_more step_behind ls l) ∙ grouped_more p e (map step_behind ls) (step_behind l)
+pub path_more : (p : Place) (e : ExprTree) (ls : List Step) (l : Step) → path_front p e (ls ++ l ∷ []) ≡ step_after l p (path_front p e ls)
+path_more p e ls l = ap (grouped p e) (map_more step_after ls l) ∙ grouped_more p e (map step_after ls) (step_after l)
 
-pub front_next : (p : Place) (e : ExprTree) (ls : List Link) (i : ℕ) (l : Link) → i < length ls → l ≡ get_or ls i l → chain_front p e (take (i + 1) ls) ≡ link_behind l p (chain_front p e (take i ls))
+pub front_next : (p : Place) (e : ExprTree) (ls : List Link) (i : ℕ) (l : Link) → i < length ls → l ≡ get_or ls i l → chain_front p e (take (i + 1) ls) ≡ link_after l p (chain_front p e (take i ls))
 front_next p e ls i l lt is = ap (chain_front p e) (take_more ls i l lt ∙ ap (λ x. take i ls ++ x ∷ []) (sym is)) ∙ front_more p e (take i ls) l
 
-pub path_next : (p : Place) (e : ExprTree) (ls : List Step) (i : ℕ) (l : Step) → i < length ls → l ≡ get_or ls i l → path_front p e (take (i + 1) ls) ≡ step_behind l p (path_front p e (take i ls))
+pub path_next : (p : Place) (e : ExprTree) (ls : List Step) (i : ℕ) (l : Step) → i < length ls → l ≡ get_or ls i l → path_front p e (take (i + 1) ls) ≡ step_after l p (path_front p e (take i ls))
 path_next p e ls i l lt is = ap (path_front p e) (take_more ls i l lt ∙ ap (λ x. take i ls ++ x ∷ []) (sym is)) ∙ path_more p e (take i ls) l
 
 pub front_whole : (p : Place) (e : ExprTree) (ls : List Link) (i : ℕ) → length ls ≤ i → chain_front p e (take i ls) ≡ chain_front p e ls

@@ -12,7 +12,7 @@ use Rattle.ss_vcgen_types.proofs.Forms.{link_no_local}
 use Rattle.ss_core.specs.declared.expr.Operator.{Operator}
 use Rattle.ss_core.specs.declared.expr.Operator.TheVariants as op
 use Rattle.ss_core.specs.Tree.{ExprTree, IntExpr, BoolExpr, NullExpr, LocalExpr, FieldExpr, ElementExpr, LengthExpr, NegateExpr, NotExpr, BinaryExpr, ImpliesExpr, IffExpr, IsExpr, AsExpr, CastExpr, OldExpr, QuantifiedExpr, StateExpr, OwnersExpr, DefaultExpr}
-use Rattle.ss_core.specs.Parts.{link_behind}
+use Rattle.ss_core.specs.Parts.{link_after}
 use Rattle.ss_store_rules.specs.NonNull.{Facts, both, Known, is_null_literal, is_local_number, operation_facts, operation_tells, learned, tells, known_tested, known_right, side_facts}
 use Rattle.ss_vcgen_types.specs.declared.told.Told.{Told}
 use Rattle.ss_vcgen_types.specs.Told.{local_of, not_null, told_where, told_by_operation, told_by, facts_of, all_facts, tells_of, all_tell, with_told}
@@ -194,8 +194,8 @@ tell_next before found after told_front told_next mark m e next =
     next (e ∙ ap (λ xs. xs ++ told_front) (sym front)) ∙ ap (λ xs. xs ++ told_next) front
 
 -- a link makes no local
-pub no_local_behind : (l : Link) (p : Place) (e : ExprTree) → local_of (link_behind l p e) ≡ None
-no_local_behind l p e = ap (λ (b : Behind). local_of (b p e)) (link_shape l).is ∙ link_no_local (link_shape l).shape p e
+pub no_local_after : (l : Link) (p : Place) (e : ExprTree) → local_of (link_after l p e) ≡ None
+no_local_after l p e = ap (λ (b : Behind). local_of (b p e)) (link_shape l).is ∙ link_no_local (link_shape l).shape p e
 
 -- a path with at least one step tells nothing
 pub step_tells : (v : Bool) (s : Step-F ExprTree Behind Behind) (p : Place) (t : ExprTree) → told_by (step_step s p t) v ≡ []

@@ -11,7 +11,7 @@ abbrev pub names_step : Names-F (List Ty) → List Ty
 names_step (shape.Locals ts) = ts.now
 names_step (shape.Bound outer) = outer.now ++ ty.Int ∷ []
 
--- the types of the locals, and behind them those of the bound names, which are numbers
+-- the types of the locals, and after them those of the bound names, which are numbers
 abbrev pub types_of_names : Names → List Ty
 types_of_names = fold-Names (List Ty) names_step
 

@@ -5,7 +5,7 @@ ghost use Rattle.ss_core.specs.declared.names.Place.{Place as PlaceValue};
 ghost use Rattle.ss_core.specs.Chain.{most_classes};
 ghost use Rattle.ss_core.specs.Tree.{ExprTree};
 ghost use Rattle.ss_core.specs.View as view;
-ghost use Rattle.ss_core.specs.Parts.{link_behind, step_behind, chain_front, path_front};
+ghost use Rattle.ss_core.specs.Parts.{link_after, step_after, chain_front, path_front};
 ghost use Rattle.ss_store_rules.specs.Locals.{is_result, local_types, everywhere};
 ghost use Rattle.ss_store_rules.specs.Types.{in_code, is_allowed, code_type};
 
@@ -64,7 +64,7 @@ fn are_code(body: &Body, types: &[Ty], links: &[Link]) -> bool
 #[cycle(code)]
 fn link_is_code(body: &Body, types: &[Ty], link: &Link) -> bool
     requires { types.now ≡ local_types (view.body body.now) }
-    ensures { (p : PlaceValue) (e : ExprTree) → everywhere (is_allowed (view.body body.now) in_code) (link_behind link.now p e) ≡ (everywhere (is_allowed (view.body body.now) in_code) e && result) }
+    ensures { (p : PlaceValue) (e : ExprTree) → everywhere (is_allowed (view.body body.now) in_code) (link_after link.now p e) ≡ (everywhere (is_allowed (view.body body.now) in_code) e && result) }
 {
     match link {
         Link::Operation(_, right) => is_code(body, types, right),
@@ -88,7 +88,7 @@ fn steps_are_code(body: &Body, types: &[Ty], steps: &[Step]) -> bool
 #[cycle(code)]
 fn step_is_code(body: &Body, types: &[Ty], step: &Step) -> bool
     requires { types.now ≡ local_types (view.body body.now) }
-    ensures { (p : PlaceValue) (e : ExprTree) → everywhere (is_allowed (view.body body.now) in_code) (step_behind step.now p e) ≡ (everywhere (is_allowed (view.body body.now) in_code) e && result) }
+    ensures { (p : PlaceValue) (e : ExprTree) → everywhere (is_allowed (view.body body.now) in_code) (step_after step.now p e) ≡ (everywhere (is_allowed (view.body body.now) in_code) e && result) }
 {
     match step {
         Step::Element(index) => is_code(body, types, index),

@@ -7,7 +7,7 @@ ghost use Rattle.ss_core.specs.Chain.{most_classes};
 ghost use Rattle.ss_core.specs.Tree.{ExprTree};
 ghost use Rattle.ss_core.specs.View.{classes, expr};
 ghost use Rattle.ss_core.specs.Types.{nullable};
-ghost use Rattle.ss_core.specs.Parts.{link_behind, step_behind, chain_front, path_front};
+ghost use Rattle.ss_core.specs.Parts.{link_after, step_after, chain_front, path_front};
 ghost use Rattle.ss_store_rules.specs.Numbers.{fits};
 ghost use Rattle.ss_store_rules.specs.Types.{where_typed, is_bool, type_of};
 ghost use Rattle.ss_vcgen_types.specs.Names.{types_of_names};
@@ -107,7 +107,7 @@ fn links_type(list: &Classes, names: &Names<'_>, first: Option<Ty>, links: &[Lin
 #[cycle(types)]
 fn link_type_in(list: &Classes, names: &Names<'_>, left: Option<Ty>, link: &Link) -> Option<Ty>
     requires { length (classes list.now) ≤ most_classes }
-    ensures { (p : PlaceValue) (e : ExprTree) → left ≡ type_of (classes list.now) (types_of_names names.now) e → result ≡ type_of (classes list.now) (types_of_names names.now) (link_behind link.now p e) }
+    ensures { (p : PlaceValue) (e : ExprTree) → left ≡ type_of (classes list.now) (types_of_names names.now) e → result ≡ type_of (classes list.now) (types_of_names names.now) (link_after link.now p e) }
 {
     match link {
         Link::Operation(operator, right) => {
@@ -137,7 +137,7 @@ fn steps_type(list: &Classes, names: &Names<'_>, first: Option<Ty>, steps: &[Ste
 #[cycle(types)]
 fn step_type_in(list: &Classes, names: &Names<'_>, from: Option<Ty>, step: &Step) -> Option<Ty>
     requires { length (classes list.now) ≤ most_classes }
-    ensures { (p : PlaceValue) (e : ExprTree) → from ≡ type_of (classes list.now) (types_of_names names.now) e → result ≡ type_of (classes list.now) (types_of_names names.now) (step_behind step.now p e) }
+    ensures { (p : PlaceValue) (e : ExprTree) → from ≡ type_of (classes list.now) (types_of_names names.now) e → result ≡ type_of (classes list.now) (types_of_names names.now) (step_after step.now p e) }
 {
     match step {
         Step::Field(field) => field_read_type(list, from, *field),
@@ -155,10 +155,10 @@ pub fn type_of(list: &Classes, types: &[Ty], e: &Expr) -> Option<Ty>
     type_in(list, &names, e)
 }
 
-/// The type of an operand of this type with one link behind it.
+/// The type of an operand of this type with one link after it.
 pub fn link_type(list: &Classes, types: &[Ty], left: Option<Ty>, link: &Link) -> Option<Ty>
     requires { length (classes list.now) ≤ most_classes }
-    ensures { (p : PlaceValue) (e : ExprTree) → left ≡ type_of (classes list.now) types.now e → result ≡ type_of (classes list.now) types.now (link_behind link.now p e) }
+    ensures { (p : PlaceValue) (e : ExprTree) → left ≡ type_of (classes list.now) types.now e → result ≡ type_of (classes list.now) types.now (link_after link.now p e) }
 {
     let names = Names::Locals(types);
     link_type_in(list, &names, left, link)
@@ -167,7 +167,7 @@ pub fn link_type(list: &Classes, types: &[Ty], left: Option<Ty>, link: &Link) ->
 /// The type of one step from an expression of this type.
 pub fn step_type(list: &Classes, types: &[Ty], from: Option<Ty>, step: &Step) -> Option<Ty>
     requires { length (classes list.now) ≤ most_classes }
-    ensures { (p : PlaceValue) (e : ExprTree) → from ≡ type_of (classes list.now) types.now e → result ≡ type_of (classes list.now) types.now (step_behind step.now p e) }
+    ensures { (p : PlaceValue) (e : ExprTree) → from ≡ type_of (classes list.now) types.now e → result ≡ type_of (classes list.now) types.now (step_after step.now p e) }
 {
     let names = Names::Locals(types);
     step_type_in(list, &names, from, step)

@@ -5,7 +5,7 @@ ghost use Rattle.ss_vcgen_types.specs.Names.{types_of_names, look_up, or_bound};
 
 use ss_core::Ty;
 
-/// The types of the locals, and behind them those of the bound names, which are numbers.
+/// The types of the locals, and after them those of the bound names, which are numbers.
 #[derive(Clone, Copy)]
 pub(crate) enum Names<'t> {
     Locals(&'t [Ty]),

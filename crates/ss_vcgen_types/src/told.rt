@@ -6,7 +6,7 @@ ghost use Rattle.ss_vcgen_types.specs.declared.told.Told.TheVariants as told;
 ghost use Rattle.ss_core.specs.declared.names.Place.{Place as PlaceValue};
 ghost use Rattle.ss_core.specs.Tree.{ExprTree};
 ghost use Rattle.ss_core.specs.View.{expr};
-ghost use Rattle.ss_core.specs.Parts.{link_behind, chain_front};
+ghost use Rattle.ss_core.specs.Parts.{link_after, chain_front};
 ghost use Rattle.ss_vcgen_types.specs.Told.{local_of, not_null, told_where, told_by, told_by_operation};
 
 use crate::atoms::{is_null_literal, local_of};
@@ -44,7 +44,7 @@ fn tell_not_null(
     Ok(())
 }
 
-// What the expression tells where it has this truth value, behind what was found before.
+// What the expression tells where it has this truth value, after what was found before.
 #[cycle(told)]
 fn tell(e: &Expr, outcome: bool, found: &mut Vec<Told>) -> Result<(), AllocError>
     ensures { OnOk result (found.new.items ≡ found.old.items ++ told_by (expr e.now) outcome) }
@@ -80,7 +80,7 @@ fn tell(e: &Expr, outcome: bool, found: &mut Vec<Told>) -> Result<(), AllocError
     }
 }
 
-// The same of an operand with these links behind it. What the operand tells stands behind the mark. Where it is a local, it is this one.
+// The same of an operand with these links after it. What the operand tells stands after the mark. Where it is a local, it is this one.
 #[cycle(told)]
 fn tell_links(
     links: &[Link],
@@ -99,7 +99,7 @@ fn tell_links(
     Ok(())
 }
 
-/// The same of an operand with one link behind it.
+/// The same of an operand with one link after it.
 #[cycle(told)]
 pub fn tell_link(
     link: &Link,
@@ -108,7 +108,7 @@ pub fn tell_link(
     local: Option<usize>,
     found: &mut Vec<Told>,
 ) -> Result<(), AllocError>
-    ensures { OnOk result ((p : PlaceValue) (e : ExprTree) → local ≡ local_of e → found.old.items ≡ take mark found.old.items ++ told_by e outcome → found.new.items ≡ take mark found.old.items ++ told_by (link_behind link.now p e) outcome) }
+    ensures { OnOk result ((p : PlaceValue) (e : ExprTree) → local ≡ local_of e → found.old.items ≡ take mark found.old.items ++ told_by e outcome → found.new.items ≡ take mark found.old.items ++ told_by (link_after link.now p e) outcome) }
 {
     match link {
         Link::Operation(operator, right) => {

@@ -1,4 +1,4 @@
--- One reading behind another.
+-- One reading after another.
 use Rattle.std.proofs.Common.{◌≡◌, ℕ, ◌+◌, ◌<◌, List, [], ◌∷◌, ◌++◌, length, map, take, get_or, true, refl, sym, ◌∙◌, ap, append_assoc, Result, Ok, Err}
 use Rattle.std.specs.Prelude.{IfOk}
 use Rattle.std.proofs.lemmas.List.{take_more, map_push, append-nil}
@@ -19,7 +19,7 @@ use Rattle.ss_vcgen_walk.specs.declared.singles.Single.TheVariants as single
 use Rattle.ss_vcgen_walk.specs.declared.twos.Two.{Two}
 use Rattle.ss_vcgen_walk.specs.declared.twos.Two.TheVariants as two
 use Rattle.ss_vcgen_walk.specs.Asked.{asked_readable}
-use Rattle.ss_vcgen_walk.specs.Forms.{single_meant, single_asks, two_meant, two_asks, second_asks, asks_behind}
+use Rattle.ss_vcgen_walk.specs.Forms.{single_meant, single_asks, two_meant, two_asks, second_asks, asks_after}
 use Rattle.ss_vcgen_walk.specs.Parts.{marked_at, parts_at, HasParts, AreParts}
 use Rattle.ss_vcgen_walk.specs.Reading.{Expressed}
 use Rattle.ss_vcgen_walk.proofs.Growing.{HasParts-grown, HasParts-push}
@@ -44,7 +44,7 @@ part_more a c before after p says g h e is = record {
   are = λ b k. ap (parts_at b) e ∙ map_push (marked_at b) before p ∙ ap (λ f. parts_at b before ++ marked_part p.kind p.place p.checked f) (is.is b k);
 }
 
--- what comes behind these
+-- what comes after these
 pub parts_then : (a c : Forms) (ps qs : List Part) (say : Forms → List Marked) (more : Forms → List Marked → List Marked) → IsGrown a c → AreParts a ps say → AreParts c qs (λ b. more b (parts_at b ps)) → AreParts c qs (λ b. more b (say b))
 parts_then a c ps qs say more g h is = record { has = is.has; are = λ b k. is.are b k ∙ ap (more b) (h.are b (IsGrown-then a c b g k)) }
 
@@ -108,7 +108,7 @@ pub expressed_alone : {E : Type 0} (r : Result Meant E) (a c : Forms) (ps : List
 expressed_alone (Ok m) a c ps says g h is = record { meant = is; parts = record { has = HasParts-grown g ps h; are = λ b k. sym (append-nil (parts_at b ps)) } }
 expressed_alone (Err e) a c ps says g h is = tt
 
--- ---- forms behind their operands
+-- ---- forms after their operands
 
 single_apart : (form : Single) (xs ys : List Marked) (c : spec.Context) (m : spec.Meant) → single_asks form (xs ++ ys) c m ≡ xs ++ single_asks form ys c m
 single_apart (single.Negate p) xs ys c m = append_assoc xs ys _
@@ -119,11 +119,11 @@ single_apart (single.Field p f checked) xs ys c m = append_assoc xs ys _
 single_apart (single.Length p checked) xs ys c m = append_assoc xs ys _
 single_apart (single.State p w checked) xs ys c m = append_assoc xs ys _
 
-pub single_behind : {E : Type 0} (r : Result Meant E) (form : Single) (sc : Context) (a c : Forms) (m : Meant) (ps qs before : List Part) (says : Forms → spec.Meant) (more : Forms → List Marked) → IsGrown a c →
+pub single_after : {E : Type 0} (r : Result Meant E) (form : Single) (sc : Context) (a c : Forms) (m : Meant) (ps qs before : List Part) (says : Forms → spec.Meant) (more : Forms → List Marked) → IsGrown a c →
     Expressed a m ps says (λ b. parts_at b before ++ more b) →
     IfOk r (λ n. Expressed c n qs (λ b. single_meant form (context_at b sc) (meant_at b m)) (λ b. single_asks form (parts_at b ps) (context_at b sc) (meant_at b m))) →
     IfOk r (λ n. Expressed c n qs (λ b. single_meant form (context_at b sc) (says b)) (λ b. parts_at b before ++ single_asks form (more b) (context_at b sc) (says b)))
-single_behind (Ok n) form sc a c m ps qs before says more g e h = record {
+single_after (Ok n) form sc a c m ps qs before says more g e h = record {
   meant = record { has = h.meant.has; is = λ b k. h.meant.is b k ∙ ap (single_meant form (context_at b sc)) (e.meant.is b (IsGrown-then a c b g k)) };
   parts = record {
     has = h.parts.has;
@@ -135,27 +135,27 @@ single_behind (Ok n) form sc a c m ps qs before says more g e h = record {
         ∙ single_apart form (parts_at b before) (more b) (context_at b sc) (says b);
   };
 }
-single_behind (Err z) form sc a c m ps qs before says more g e h = tt
+single_after (Err z) form sc a c m ps qs before says more g e h = tt
 
 three_apart : (xs ys u v : List Marked) → ((xs ++ ys) ++ u) ++ v ≡ xs ++ ((ys ++ u) ++ v)
 three_apart xs ys u v = ap (λ l. l ++ v) (append_assoc xs ys u) ∙ append_assoc xs (ys ++ u) v
 
-behind_apart : (form : Two) (xs ys : List Marked) (c : spec.Context) (x y : spec.Meant) → asks_behind form (xs ++ ys) c x y ≡ xs ++ asks_behind form ys c x y
-behind_apart (two.Operation p o bools) xs ys c x y = append_assoc xs ys _
-behind_apart (two.Element p s checked) xs ys c x y = three_apart xs ys (asked_readable checked c x p) (marked_part kind.Index p true (spec.index_fits x y))
-behind_apart two.Implies xs ys c x y = refl
-behind_apart two.Iff xs ys c x y = refl
-behind_apart (two.Owners p w first second) xs ys c x y = three_apart xs ys (asked_readable first c x p) (asked_readable second c y p)
+after_apart : (form : Two) (xs ys : List Marked) (c : spec.Context) (x y : spec.Meant) → asks_after form (xs ++ ys) c x y ≡ xs ++ asks_after form ys c x y
+after_apart (two.Operation p o bools) xs ys c x y = append_assoc xs ys _
+after_apart (two.Element p s checked) xs ys c x y = three_apart xs ys (asked_readable checked c x p) (marked_part kind.Index p true (spec.index_fits x y))
+after_apart two.Implies xs ys c x y = refl
+after_apart two.Iff xs ys c x y = refl
+after_apart (two.Owners p w first second) xs ys c x y = three_apart xs ys (asked_readable first c x p) (asked_readable second c y p)
 
 two_apart : (form : Two) (xs ys qs : List Marked) (c : spec.Context) (x y : spec.Meant) → two_asks form (xs ++ ys) qs c x y ≡ xs ++ two_asks form ys qs c x y
-two_apart form xs ys qs c x y = ap (λ l. asks_behind form l c x y) (append_assoc xs ys (second_asks form x qs)) ∙ behind_apart form xs (ys ++ second_asks form x qs) c x y
+two_apart form xs ys qs c x y = ap (λ l. asks_after form l c x y) (append_assoc xs ys (second_asks form x qs)) ∙ after_apart form xs (ys ++ second_asks form x qs) c x y
 
--- behind the first operand
-pub first_behind : {E : Type 0} (r : Result Meant E) (form : Two) (sc : Context) (a c : Forms) (m : Meant) (ps qs before : List Part) (says other : Forms → spec.Meant) (more others : Forms → List Marked) → IsGrown a c →
+-- after the first operand
+pub first_after : {E : Type 0} (r : Result Meant E) (form : Two) (sc : Context) (a c : Forms) (m : Meant) (ps qs before : List Part) (says other : Forms → spec.Meant) (more others : Forms → List Marked) → IsGrown a c →
     Expressed a m ps says (λ b. parts_at b before ++ more b) →
     IfOk r (λ n. Expressed c n qs (λ b. two_meant form (context_at b sc) (meant_at b m) (other b)) (λ b. two_asks form (parts_at b ps) (others b) (context_at b sc) (meant_at b m) (other b))) →
     IfOk r (λ n. Expressed c n qs (λ b. two_meant form (context_at b sc) (says b) (other b)) (λ b. parts_at b before ++ two_asks form (more b) (others b) (context_at b sc) (says b) (other b)))
-first_behind (Ok n) form sc a c m ps qs before says other more others g e h = record {
+first_after (Ok n) form sc a c m ps qs before says other more others g e h = record {
   meant = record { has = h.meant.has; is = λ b k. h.meant.is b k ∙ ap (λ x. two_meant form (context_at b sc) x (other b)) (e.meant.is b (IsGrown-then a c b g k)) };
   parts = record {
     has = h.parts.has;
@@ -167,14 +167,14 @@ first_behind (Ok n) form sc a c m ps qs before says other more others g e h = re
         ∙ two_apart form (parts_at b before) (more b) (others b) (context_at b sc) (says b) (other b);
   };
 }
-first_behind (Err z) form sc a c m ps qs before says other more others g e h = tt
+first_after (Err z) form sc a c m ps qs before says other more others g e h = tt
 
--- behind the second operand, whose parts are a list of their own
-pub second_behind : {E : Type 0} (r : Result Meant E) (form : Two) (sc : Context) (a c : Forms) (m n : Meant) (ps qs list : List Part) (other : Forms → spec.Meant) (others : Forms → List Marked) → IsGrown a c →
+-- after the second operand, whose parts are a list of their own
+pub second_after : {E : Type 0} (r : Result Meant E) (form : Two) (sc : Context) (a c : Forms) (m n : Meant) (ps qs list : List Part) (other : Forms → spec.Meant) (others : Forms → List Marked) → IsGrown a c →
     Expressed a n list other others →
     IfOk r (λ v. Expressed c v qs (λ b. two_meant form (context_at b sc) (meant_at b m) (meant_at b n)) (λ b. two_asks form (parts_at b ps) (parts_at b list) (context_at b sc) (meant_at b m) (meant_at b n))) →
     IfOk r (λ v. Expressed c v qs (λ b. two_meant form (context_at b sc) (meant_at b m) (other b)) (λ b. two_asks form (parts_at b ps) (others b) (context_at b sc) (meant_at b m) (other b)))
-second_behind (Ok v) form sc a c m n ps qs list other others g e h = record {
+second_after (Ok v) form sc a c m n ps qs list other others g e h = record {
   meant = record { has = h.meant.has; is = λ b k. h.meant.is b k ∙ ap (two_meant form (context_at b sc) (meant_at b m)) (e.meant.is b (IsGrown-then a c b g k)) };
   parts = record {
     has = h.parts.has;
@@ -185,7 +185,7 @@ second_behind (Ok v) form sc a c m n ps qs list other others g e h = record {
         ∙ ap (two_asks form (parts_at b ps) (others b) (context_at b sc) (meant_at b m)) (e.meant.is b g2);
   };
 }
-second_behind (Err z) form sc a c m n ps qs list other others g e h = tt
+second_after (Err z) form sc a c m n ps qs list other others g e h = tt
 
 -- into a list that was empty
 pub fresh : (a : Forms) (m : Meant) (ps before : List Part) (says : Forms → spec.Meant) (more : Forms → List Marked) → before ≡ [] → Expressed a m ps says (λ b. parts_at b before ++ more b) → Expressed a m ps says more

@@ -41,7 +41,7 @@ use Rattle.ss_vcgen_walk.specs.Parts.{parts_at, HasParts, AreParts}
 use Rattle.ss_vcgen_walk.specs.Reading.{Expressed}
 use Rattle.ss_vcgen_walk.specs.NullContexts.{type_context_at, known_at, Reads}
 use Rattle.ss_vcgen_walk.proofs.Growing.{HasParts-grown}
-use Rattle.ss_vcgen_walk.proofs.Composing.{single_behind, first_behind}
+use Rattle.ss_vcgen_walk.proofs.Composing.{single_after, first_after}
 
 -- an expression with the same tree
 pub reads_as : {E : Type 0} (r : Result Meant E) (c : Forms) (ps before : List Part) (s : NullContext) (sc : Context) (t u : ExprTree) → t ≡ u → IfOk r (λ m. Reads c m ps before t s sc) → IfOk r (λ m. Reads c m ps before u s sc)
@@ -56,43 +56,43 @@ module _ {E : Type 0} (r : Result Meant E) (s : NullContext) (sc : Context) (a c
   abbrev One : Single → Type 0
   One form = IfOk r (λ n. Expressed c n qs (λ b. single_meant form (context_at b sc) (meant_at b m)) (λ b. single_asks form (parts_at b ps) (context_at b sc) (meant_at b m)))
 
-  one_behind : (form : Single) → One form → IfOk r (λ n. Expressed c n qs (λ b. single_meant form (context_at b sc) (spec.meant t (context_at b sc))) (λ b. parts_at b q ++ single_asks form (marked t (type_context_at s) (known_at s) (context_at b sc)) (context_at b sc) (spec.meant t (context_at b sc))))
-  one_behind form h = single_behind r form sc a c m ps qs q (λ b. spec.meant t (context_at b sc)) (λ b. marked t (type_context_at s) (known_at s) (context_at b sc)) g front h
+  one_after : (form : Single) → One form → IfOk r (λ n. Expressed c n qs (λ b. single_meant form (context_at b sc) (spec.meant t (context_at b sc))) (λ b. parts_at b q ++ single_asks form (marked t (type_context_at s) (known_at s) (context_at b sc)) (context_at b sc) (spec.meant t (context_at b sc))))
+  one_after form h = single_after r form sc a c m ps qs q (λ b. spec.meant t (context_at b sc)) (λ b. marked t (type_context_at s) (known_at s) (context_at b sc)) g front h
 
   pub reads_is : (k : ClassId) (p : Place) → One (single.Is k) → IfOk r (λ n. Reads c n qs q (IsExpr p t k.0) s sc)
-  reads_is k p h = one_behind (single.Is k) h
+  reads_is k p h = one_after (single.Is k) h
 
   pub reads_as_class : (k : ClassId) (p : Place) → One (single.As k) → IfOk r (λ n. Reads c n qs q (AsExpr p t k.0) s sc)
-  reads_as_class k p h = one_behind (single.As k) h
+  reads_as_class k p h = one_after (single.As k) h
 
   pub reads_field : (f : FieldId) (p : Place) (checked : Bool) → checked ≡ may_be_null s sc t → One (single.Field p f checked) → IfOk r (λ n. Reads c n qs q (FieldExpr p t f.0) s sc)
-  reads_field f p checked e h = one_behind (single.Field p f (may_be_null s sc t)) (subst (λ (x : Bool). One (single.Field p f x)) e h)
+  reads_field f p checked e h = one_after (single.Field p f (may_be_null s sc t)) (subst (λ (x : Bool). One (single.Field p f x)) e h)
 
   pub reads_length : (p : Place) (checked : Bool) → checked ≡ may_be_null s sc t → One (single.Length p checked) → IfOk r (λ n. Reads c n qs q (LengthExpr p t) s sc)
-  reads_length p checked e h = one_behind (single.Length p (may_be_null s sc t)) (subst (λ (x : Bool). One (single.Length p x)) e h)
+  reads_length p checked e h = one_after (single.Length p (may_be_null s sc t)) (subst (λ (x : Bool). One (single.Length p x)) e h)
 
   -- a form with a second operand e, which is read where this is known
   abbrev Second : Two → ExprTree → rules.Known → Type 0
   Second form e k = IfOk r (λ n. Expressed c n qs (λ b. two_meant form (context_at b sc) (meant_at b m) (spec.meant e (context_at b sc)))
       (λ b. two_asks form (parts_at b ps) (marked e (type_context_at s) k (context_at b sc)) (context_at b sc) (meant_at b m) (spec.meant e (context_at b sc))))
 
-  pub two_behind : (form : Two) (e : ExprTree) (k : rules.Known) → Second form e k →
+  pub two_after : (form : Two) (e : ExprTree) (k : rules.Known) → Second form e k →
       IfOk r (λ n. Expressed c n qs (λ b. two_meant form (context_at b sc) (spec.meant t (context_at b sc)) (spec.meant e (context_at b sc)))
       (λ b. parts_at b q ++ two_asks form (marked t (type_context_at s) (known_at s) (context_at b sc)) (marked e (type_context_at s) k (context_at b sc)) (context_at b sc) (spec.meant t (context_at b sc)) (spec.meant e (context_at b sc))))
-  two_behind form e k h = first_behind r form sc a c m ps qs q (λ b. spec.meant t (context_at b sc)) (λ b. spec.meant e (context_at b sc)) (λ b. marked t (type_context_at s) (known_at s) (context_at b sc)) (λ b. marked e (type_context_at s) k (context_at b sc)) g front h
+  two_after form e k h = first_after r form sc a c m ps qs q (λ b. spec.meant t (context_at b sc)) (λ b. spec.meant e (context_at b sc)) (λ b. marked t (type_context_at s) (known_at s) (context_at b sc)) (λ b. marked e (type_context_at s) k (context_at b sc)) g front h
 
   pub reads_operation : (o : Operator) (p : Place) (e : ExprTree) (bools : Bool) → bools ≡ is_bool (type_of (classes sc.classes.now) sc.types.items t) → Second (two.Operation p o bools) e (known_right o t (known_at s)) →
       IfOk r (λ n. Reads c n qs q (BinaryExpr p o t e) s sc)
   reads_operation o p e bools w h =
       let fits = is_bool (type_of (classes sc.classes.now) sc.types.items t) in
-      two_behind (two.Operation p o fits) e (known_right o t (known_at s)) (subst (λ (x : Bool). Second (two.Operation p o x) e (known_right o t (known_at s))) w h)
+      two_after (two.Operation p o fits) e (known_right o t (known_at s)) (subst (λ (x : Bool). Second (two.Operation p o x) e (known_right o t (known_at s))) w h)
 
   pub reads_element : (p : Place) (e : ExprTree) (sort : Sort) (checked : Bool) → sort ≡ spec.element_sort (element_of (classes sc.classes.now) (type_of (classes sc.classes.now) sc.types.items t)) → checked ≡ may_be_null s sc t →
       Second (two.Element p sort checked) e (known_at s) → IfOk r (λ n. Reads c n qs q (ElementExpr p t e) s sc)
   reads_element p e sort checked v w h =
       let k = known_at s in
       let of = spec.element_sort (element_of (classes sc.classes.now) (type_of (classes sc.classes.now) sc.types.items t)) in
-      two_behind (two.Element p of (may_be_null s sc t)) e k (subst (λ (x : Sort). Second (two.Element p x (may_be_null s sc t)) e k) v (subst (λ (x : Bool). Second (two.Element p sort x) e k) w h))
+      two_after (two.Element p of (may_be_null s sc t)) e k (subst (λ (x : Sort). Second (two.Element p x (may_be_null s sc t)) e k) v (subst (λ (x : Bool). Second (two.Element p sort x) e k) w h))
 
 -- what a question asks
 pub word_asks : (w : StateWord) (s : NullContext) (sc : Context) (t : ExprTree) (b : Forms) (p : Place) → marked_word (word_tree w) (type_context_at s) (known_at s) t (context_at b sc) p ≡ asked_word (word_tree w) (may_be_null s sc t) (context_at b sc) (spec.meant t (context_at b sc)) p
@@ -131,12 +131,12 @@ reads_member (Err z) a c ps q t s inner sc g e h = tt
 
 -- ---- quantifiers
 
--- behind the bounds, by the member with its parts
-pub quantified_behind : {E : Type 0} (r : Result Meant E) (q : Quantifier) (sc : Context) (o a d : Forms) (out : List FormulaId) (low high m : Meant) (ps qs list : List Part) (member : Forms → spec.Meant) (members : Forms → List Marked) → IsGrown o a → IsGrown a d →
+-- after the bounds, by the member with its parts
+pub quantified_after : {E : Type 0} (r : Result Meant E) (q : Quantifier) (sc : Context) (o a d : Forms) (out : List FormulaId) (low high m : Meant) (ps qs list : List Part) (member : Forms → spec.Meant) (members : Forms → List Marked) → IsGrown o a → IsGrown a d →
     AreFormulas o out (λ b. spec.out_of_range (context_at b sc) (meant_at b low) (meant_at b high)) → Expressed a m list member members →
     IfOk r (λ n. Expressed d n qs (λ b. spec.Says (quantified_over q (formulas_at b out) (spec.said (meant_at b m)))) (λ b. parts_at b ps ++ map (with_marked (for_each (formulas_at b out))) (parts_at b list))) →
     IfOk r (λ n. Expressed d n qs (λ b. spec.Says (spec.quantified_said (context_at b sc) q (meant_at b low) (meant_at b high) (spec.said (member b)))) (λ b. parts_at b ps ++ map (with_marked (in_range (context_at b sc) (meant_at b low) (meant_at b high))) (members b)))
-quantified_behind (Ok n) q sc o a d out low high m ps qs list member members g h os e w = record {
+quantified_after (Ok n) q sc o a d out low high m ps qs list member members g h os e w = record {
   meant = record {
     has = w.meant.has;
     is = λ b k.
@@ -157,7 +157,7 @@ quantified_behind (Ok n) q sc o a d out low high m ps qs list member members g h
         ∙ ap (λ l. parts_at b ps ++ map (with_marked (in_range (context_at b sc) (meant_at b low) (meant_at b high))) l) (e.parts.are b k2);
   };
 }
-quantified_behind (Err z) q sc o a d out low high m ps qs list member members g h os e w = tt
+quantified_after (Err z) q sc o a d out low high m ps qs list member members g h os e w = tt
 
 -- the expression, by its bounds
 pub reads_quantified : {E : Type 0} (r : Result Meant E) (s : NullContext) (sc : Context) (a1 a2 d : Forms) (x y : Meant) (ps1 ps2 qs before : List Part) (tl th t : ExprTree) (p : Place) (q : Quantifier) (n : List ℕ) → IsGrown a1 a2 → IsGrown a2 d → Reads a1 x ps1 before tl s sc → Reads a2 y ps2 ps1 th s sc →
@@ -239,7 +239,7 @@ pub reads_owners : {E : Type 0} (r : Result Meant E) (s : NullContext) (sc : Con
 reads_owners r s sc a c m ps qs before t u p w form g front e h =
     let of = λ (f : Two). IfOk r (λ n. Expressed c n qs (λ b. two_meant f (context_at b sc) (meant_at b m) (spec.meant u (context_at b sc)))
     (λ b. two_asks f (parts_at b ps) (marked u (type_context_at s) (known_at s) (context_at b sc)) (context_at b sc) (meant_at b m) (spec.meant u (context_at b sc)))) in
-    two_behind r s sc a c m ps qs before t g front (two.Owners p w (may_be_null s sc t) (may_be_null s sc u)) u (known_at s) (subst of e h)
+    two_after r s sc a c m ps qs before t g front (two.Owners p w (may_be_null s sc t) (may_be_null s sc u)) u (known_at s) (subst of e h)
 
 -- the same tree in other words
 pub reads_tree : (c : Forms) (m : Meant) (ps before : List Part) (s : NullContext) (sc : Context) (t u : ExprTree) → t ≡ u → Reads c m ps before t s sc → Reads c m ps before u s sc

@@ -1,4 +1,4 @@
--- The forms of expressions with one operand and with two: what each means, and what it asks behind the parts of its operands.
+-- The forms of expressions with one operand and with two: what each means, and what it asks after the parts of its operands.
 use Rattle.std.specs.Prelude.{ℕ, pos, List, [], ◌∷◌, ◌++◌, Bool, true, not, flat_map, if◌then◌else◌}
 use Rattle.ss_core.specs.declared.names.Kind.TheVariants as kind
 use Rattle.ss_core.specs.declared.names.Place.{Place}
@@ -30,7 +30,7 @@ single_meant (single.Field p f checked) c m = mapped (λ o. app (term.Field f.0)
 single_meant (single.Length p checked) c m = mapped (λ o. app term.Length (o ∷ [])) m
 single_meant (single.State p w checked) c m = Says (over m (word_said c (word_tree w)))
 
--- behind the parts of the operand
+-- after the parts of the operand
 abbrev pub single_asks : Single → List Marked → Context → Meant → List Marked
 single_asks (single.Negate p) ps c m = ps ++ marked_part kind.Overflow p true (over m (λ x. fits_int (app term.Subtract (number (pos 0) ∷ x ∷ []))))
 single_asks single.Not ps c m = ps
@@ -57,21 +57,21 @@ second_asks two.Implies x qs = marked_under (said x) qs
 second_asks two.Iff x qs = qs
 second_asks (two.Owners p w first second) x qs = qs
 
--- behind the parts of both operands
-abbrev pub asks_behind : Two → List Marked → Context → Meant → Meant → List Marked
-asks_behind (two.Operation p o bools) ps c x y = ps ++ marked_operation o x y p
-asks_behind (two.Element p s checked) ps c x y = ps ++ asked_readable checked c x p ++ marked_part kind.Index p true (index_fits x y)
-asks_behind two.Implies ps c x y = ps
-asks_behind two.Iff ps c x y = ps
-asks_behind (two.Owners p w first second) ps c x y = ps ++ asked_readable first c x p ++ asked_readable second c y p
+-- after the parts of both operands
+abbrev pub asks_after : Two → List Marked → Context → Meant → Meant → List Marked
+asks_after (two.Operation p o bools) ps c x y = ps ++ marked_operation o x y p
+asks_after (two.Element p s checked) ps c x y = ps ++ asked_readable checked c x p ++ marked_part kind.Index p true (index_fits x y)
+asks_after two.Implies ps c x y = ps
+asks_after two.Iff ps c x y = ps
+asks_after (two.Owners p w first second) ps c x y = ps ++ asked_readable first c x p ++ asked_readable second c y p
 
--- behind the parts of the first operand, by those of the second
+-- after the parts of the first operand, by those of the second
 abbrev pub two_asks : Two → List Marked → List Marked → Context → Meant → Meant → List Marked
-two_asks form ps qs c x y = asks_behind form (ps ++ second_asks form x qs) c x y
+two_asks form ps qs c x y = asks_after form (ps ++ second_asks form x qs) c x y
 
 -- ---- casts
 
--- behind the parts of the operand e
+-- after the parts of the operand e
 abbrev pub cast_asks : Site → Known → Context → Place → ℕ → Bool → ExprTree → List Marked → Meant → List Marked
 cast_asks s k c p t non_null e ps m =
     ps ++ (if non_null then asked_null (not (is_never_null s k c.inside_old e)) m p else [])

@@ -26,6 +26,6 @@ known_at s = tested s.tests.now (known_of s.known.now)
 abbrev pub IsNullContext : NullContext → Type 0
 IsNullContext s = length (view.classes s.typing.classes.now) ≤ most_classes
 
--- the expression means it, and its parts stand behind those of before
+-- the expression means it, and its parts stand after those of before
 abbrev pub Reads : Forms → Meant → List Part → List Part → ExprTree → NullContext → Context → Type 0
 Reads a m ps before t s c = Expressed a m ps (λ b. spec.meant t (context_at b c)) (λ b. parts_at b before ++ marked t (type_context_at s) (known_at s) (context_at b c))

@@ -12,7 +12,7 @@ ghost use Rattle.ss_vcgen_express.specs.Marked.{marked_part, marked_result, mark
 ghost use Rattle.ss_vcgen_express.specs.Numbers.{meant_at, HasMeant, IsMeant};
 ghost use Rattle.ss_vcgen_express.specs.Contexts.{context_at, HasContext};
 ghost use Rattle.ss_vcgen_walk.specs.Asked.{asked_readable};
-ghost use Rattle.ss_vcgen_walk.specs.Forms.{two_meant, second_asks, asks_behind, two_asks};
+ghost use Rattle.ss_vcgen_walk.specs.Forms.{two_meant, second_asks, asks_after, two_asks};
 ghost use Rattle.ss_vcgen_walk.specs.Parts.{parts_at, HasParts, AreParts};
 ghost use Rattle.ss_vcgen_walk.specs.Reading.{Expressed};
 
@@ -260,8 +260,8 @@ fn ask_owners(
     ask_readable(bank, context, parts, place, second)
 }
 
-// What the form asks behind the parts of its second operand.
-fn ask_behind(
+// What the form asks after the parts of its second operand.
+fn ask_after(
     bank: &mut Bank,
     context: &ReadingContext<'_>,
     parts: &mut Vec<Part>,
@@ -272,7 +272,7 @@ fn ask_behind(
     requires first { HasMeant bank.old operands.first.now }
     requires second { HasMeant bank.old operands.second.now }
     requires parts { HasParts bank.old parts.old.items }
-    ensures asked { OnOk result (AreParts bank.new parts.new.items (λ b. asks_behind form (parts_at b parts.old.items) (context_at b context.now.expression.now) (meant_at b operands.entry.first.now) (meant_at b operands.entry.second.now))) }
+    ensures asked { OnOk result (AreParts bank.new parts.new.items (λ b. asks_after form (parts_at b parts.old.items) (context_at b context.now.expression.now) (meant_at b operands.entry.first.now) (meant_at b operands.entry.second.now))) }
     ensures grown { IsGrown bank.old bank.new }
 {
     match form {
@@ -320,7 +320,7 @@ fn add_second(
 }
 
 // What the form and its second operand ask.
-fn ask_two_behind(
+fn ask_two_after(
     bank: &mut Bank,
     context: &ReadingContext<'_>,
     parts: &mut Vec<Part>,
@@ -341,7 +341,7 @@ fn ask_two_behind(
         first: x,
         second: second.meant,
     };
-    ask_behind(bank, context, parts, form, operands)
+    ask_after(bank, context, parts, form, operands)
 }
 
 // The form of an operand that means this and a second one, as it was read.
@@ -361,6 +361,6 @@ pub(crate) fn of_two(
     ensures expressed { IfOk result (λ r. Expressed bank.new r parts.new.items (λ b. two_meant form (context_at b context.now.expression.now) (meant_at b x) (meant_at b second.entry.meant.now)) (λ b. two_asks form (parts_at b parts.old.items) (parts_at b second.entry.parts.now) (context_at b context.now.expression.now) (meant_at b x) (meant_at b second.entry.meant.now))) }
     ensures grown { IsGrown bank.old bank.new }
 {
-    ask_two_behind(bank, context, parts, form, &x, second)?;
+    ask_two_after(bank, context, parts, form, &x, second)?;
     two_meant(bank, context, form, x, second.meant)
 }

@@ -6,7 +6,7 @@ ghost use Rattle.ss_core.specs.declared.names.Kind.TheVariants as kind;
 ghost use Rattle.ss_core.specs.Chain.{most_classes};
 ghost use Rattle.ss_core.specs.Tree.{ExprTree, CastExpr, OldExpr, StateExpr};
 ghost use Rattle.ss_core.specs.View.{expr, default_tree, classes, word_tree};
-ghost use Rattle.ss_core.specs.Parts.{link_behind, step_behind, chain_front, path_front};
+ghost use Rattle.ss_core.specs.Parts.{link_after, step_after, chain_front, path_front};
 ghost use Rattle.ss_logic.specs.Shapes.{number, null_term};
 ghost use Rattle.ss_logic.specs.Express as spec;
 ghost use Rattle.ss_store_rules.specs.NonNull as rules;
@@ -326,7 +326,7 @@ fn of_member(
 
 // ---- the walk
 
-/// What an expression means; what has to be so for it to have a value is put behind `parts`.
+/// What an expression means; what has to be so for it to have a value is put after `parts`.
 #[cycle(express)]
 pub fn express(
     bank: &mut Bank,
@@ -458,7 +458,7 @@ struct ChainFront<'a> {
     told: &'a FrontTold,
 }
 
-// An operator behind the front of a chain: its place, whether it is on truths, and what the front tells.
+// An operator after the front of a chain: its place, whether it is on truths, and what the front tells.
 #[derive(Clone, Copy)]
 struct PlacedOperator<'a> {
     place: Place,
@@ -467,7 +467,7 @@ struct PlacedOperator<'a> {
     told: &'a FrontTold,
 }
 
-// An operation behind the front of a chain, which means this.
+// An operation after the front of a chain, which means this.
 #[cycle(express)]
 fn operation(
     bank: &mut Bank,
@@ -507,7 +507,7 @@ fn operation(
     behind(bank, &learnt, parts, e, form, m)
 }
 
-// A link behind the front of a chain, which means this.
+// A link after the front of a chain, which means this.
 #[cycle(express)]
 fn linked(
     bank: &mut Bank,
@@ -523,7 +523,7 @@ fn linked(
     ensures expressed { (q : List PartValue) (t : ExprTree) → Reads bank.old m parts.old.items q t context.now.nulls.now context.now.expression.now
         → TellsFront front.entry.told.now t
         → front.entry.ty ≡ types.type_of (classes context.now.expression.now.classes.now) context.now.expression.now.types.items t
-        → IfOk result (λ r. Reads bank.new r parts.new.items q (link_behind link.now front.entry.place t) context.now.nulls.now context.now.expression.now) }
+        → IfOk result (λ r. Reads bank.new r parts.new.items q (link_after link.now front.entry.place t) context.now.nulls.now context.now.expression.now) }
     ensures grown { IsGrown bank.old bank.new }
 {
     match link {
@@ -541,7 +541,7 @@ fn linked(
     }
 }
 
-// What a chain or a path begins with, and the place of each part behind it.
+// What a chain or a path begins with, and the place of each part after it.
 #[derive(Clone, Copy)]
 struct Start<'a> {
     at: Place,
@@ -598,7 +598,7 @@ struct PathFront {
     checked: bool,
 }
 
-// A step behind the front of a path, which means this.
+// A step after the front of a path, which means this.
 #[cycle(express)]
 fn stepped(
     bank: &mut Bank,
@@ -614,7 +614,7 @@ fn stepped(
     ensures expressed { (q : List PartValue) (t : ExprTree) → Reads bank.old m parts.old.items q t context.now.nulls.now context.now.expression.now
         → front.checked ≡ not (rules.is_never_null (type_context_at context.now.nulls.now) (known_at context.now.nulls.now) context.now.expression.now.inside_old t)
         → front.ty ≡ types.type_of (classes context.now.expression.now.classes.now) context.now.expression.now.types.items t
-        → IfOk result (λ r. Reads bank.new r parts.new.items q (step_behind step.now front.place t) context.now.nulls.now context.now.expression.now) }
+        → IfOk result (λ r. Reads bank.new r parts.new.items q (step_after step.now front.place t) context.now.nulls.now context.now.expression.now) }
     ensures grown { IsGrown bank.old bank.new }
 {
     match step {

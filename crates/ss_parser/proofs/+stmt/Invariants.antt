@@ -15,8 +15,8 @@ decreases-governed::inner_statements l = 16 * l.depth + 0
 abbrev pub decreases-governed::inner_governed : goal.decreases-governed::inner_governed
 decreases-governed::inner_governed l = 16 * l.depth + 0
 
-abbrev pub decreases-governed::parse_block_behind : goal.decreases-governed::parse_block_behind
-decreases-governed::parse_block_behind l = 16 * l.depth + 1
+abbrev pub decreases-governed::parse_block_after : goal.decreases-governed::parse_block_after
+decreases-governed::parse_block_after l = 16 * l.depth + 1
 
 abbrev pub decreases-governed::parse_inner_block : goal.decreases-governed::parse_inner_block
 decreases-governed::parse_inner_block l = 16 * l.depth + 2

@@ -9,8 +9,8 @@ use Rattle.ss_grammar.proofs.Turns.{Turns, turns_on, turns_last, more_on, more_l
 use Rattle.ss_grammar_expressions.specs.First.{tokened}
 use Rattle.ss_grammar_expressions.specs.Heads.{the, pieces, link_head, postfix_head}
 use Rattle.ss_grammar_expressions.specs.Grammar.{TheExpression, join_argument}
-use Rattle.ss_grammar_expressions.specs.Parser.{below, postfix, joins, link_behind, operand}
-use Rattle.ss_ast.specs.Parts.{link_behind as link_tree, postfix_behind as postfix_tree}
+use Rattle.ss_grammar_expressions.specs.Parser.{below, postfix, joins, link_after, operand}
+use Rattle.ss_ast.specs.Parts.{link_after as link_tree, postfix_after as postfix_tree}
 use Rattle.ss_ast.proofs.Grouping.{grouped_push}
 use Rattle.ss_parser_expressions.proofs.Loops.{fails_on, err_gives, pieces_fewer, pieces_less, chain_is, postfixes_is}
 use Rattle.ss_parser_expressions.proofs.+expr.Goals as goal
@@ -18,14 +18,14 @@ use Rattle.ss_parser_expressions.proofs.+expr.Goals as goal
 pub chains::parse_chain-returns-clause-gives : goal.chains::parse_chain-returns-clause-gives
 chains::parse_chain-returns-clause-gives t c =
     let w = below c.args.depth in
-    let e = chain_is c.args.depth w c.args.rank c.args.place (expr_tree c.args.first.value) (pieces c.args.tokens.now) (omega (arith, c.if-rank-eq0.false)) ∙ ap (λ r. r >>= λ x. times (link_head (c.args.rank - 1 + 1)) (link_behind c.args.depth w (operand c.args.depth w (c.args.rank - 1))) (joins c.args.depth w c.args.place) (length x.1) x.0 x.1) c.in_ok-first.ensures.gives in
+    let e = chain_is c.args.depth w c.args.rank c.args.place (expr_tree c.args.first.value) (pieces c.args.tokens.now) (omega (arith, c.if-rank-eq0.false)) ∙ ap (λ r. r >>= λ x. times (link_head (c.args.rank - 1 + 1)) (link_after c.args.depth w (operand c.args.depth w (c.args.rank - 1))) (joins c.args.depth w c.args.place) (length x.1) x.0 x.1) c.in_ok-first.ensures.gives in
     subst (λ r. Gives (λ x. (expr_tree x.0.value, pieces x.1.now)) c.parse_links.result r) (sym e) c.parse_links.ensures.gives
 
 pub chains::parse_links-loop-joint-preserved : goal.chains::parse_links-loop-joint-preserved
 chains::parse_links-loop-joint-preserved t c =
     let w = below c.args.depth in
     let f = link_head (c.args.rank + 1) in
-    let k = link_behind c.args.depth w (operand c.args.depth w c.args.rank) in
+    let k = link_after c.args.depth w (operand c.args.depth w c.args.rank) in
     let first = expr_tree c.args.first.value in
     let p = c.args.place in
     let so_far = grouped p first (map link_tree c.loop-joint.links.items) in
@@ -38,7 +38,7 @@ chains::parse_links-loop-joint-preserved t c =
 pub chains::parse_links-returns-clause-gives : goal.chains::parse_links-returns-clause-gives
 chains::parse_links-returns-clause-gives t c =
     let w = below c.args.depth in
-    turns_last (link_head (c.args.rank + 1)) (link_behind c.args.depth w (operand c.args.depth w c.args.rank)) (joins c.args.depth w c.args.place) _ (pieces c.loop-joint.rest.now) _ c.in_default.ensures.sees c.loop-joint.invariant.turns ∙ ap (λ e. Ok (e, pieces c.loop-joint.rest.now)) (sym c.in_ok-chain.ensures)
+    turns_last (link_head (c.args.rank + 1)) (link_after c.args.depth w (operand c.args.depth w c.args.rank)) (joins c.args.depth w c.args.place) _ (pieces c.loop-joint.rest.now) _ c.in_default.ensures.sees c.loop-joint.invariant.turns ∙ ap (λ e. Ok (e, pieces c.loop-joint.rest.now)) (sym c.in_ok-chain.ensures)
 
 pub paths::parse_postfixes-loop-postfixes-preserved : goal.paths::parse_postfixes-loop-postfixes-preserved
 paths::parse_postfixes-loop-postfixes-preserved t c =

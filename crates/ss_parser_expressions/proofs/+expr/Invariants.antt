@@ -6,8 +6,8 @@ use Rattle.ss_grammar.proofs.Turns.{Turns}
 use Rattle.ss_grammar_expressions.specs.First.{tokened}
 use Rattle.ss_grammar_expressions.specs.Heads.{the, pieces, link_head, postfix_head}
 use Rattle.ss_grammar_expressions.specs.Grammar.{TheExpression, join_argument}
-use Rattle.ss_grammar_expressions.specs.Parser.{below, postfix, joins, link_behind, operand}
-use Rattle.ss_ast.specs.Parts.{link_behind as link_tree, postfix_behind as postfix_tree}
+use Rattle.ss_grammar_expressions.specs.Parser.{below, postfix, joins, link_after, operand}
+use Rattle.ss_ast.specs.Parts.{link_after as link_tree, postfix_after as postfix_tree}
 use Rattle.ss_parser_expressions.proofs.+expr.Given as goal
 
 abbrev pub decreases-unaries::inner_unary : goal.decreases-unaries::inner_unary
@@ -183,7 +183,7 @@ decreases-arguments::parse_more_args-loop-after l = length l.rest
 
 abbrev pub invariant-chains::parse_links-loop-joint : goal.invariant-chains::parse_links-loop-joint
 invariant-chains::parse_links-loop-joint l = record {
-  turns : Turns (link_head (l.rank + 1)) (link_behind l.depth (below l.depth) (operand l.depth (below l.depth) l.rank)) (joins l.depth (below l.depth) l.place) (grouped l.place (expr_tree l.first.value) (map link_tree l.links.items)) (pieces l.rest) (times (link_head (l.rank + 1)) (link_behind l.depth (below l.depth) (operand l.depth (below l.depth) l.rank)) (joins l.depth (below l.depth) l.place) (length (pieces l.fn.tokens)) (expr_tree l.fn.first.value) (pieces l.fn.tokens));
+  turns : Turns (link_head (l.rank + 1)) (link_after l.depth (below l.depth) (operand l.depth (below l.depth) l.rank)) (joins l.depth (below l.depth) l.place) (grouped l.place (expr_tree l.first.value) (map link_tree l.links.items)) (pieces l.rest) (times (link_head (l.rank + 1)) (link_after l.depth (below l.depth) (operand l.depth (below l.depth) l.rank)) (joins l.depth (below l.depth) l.place) (length (pieces l.fn.tokens)) (expr_tree l.fn.first.value) (pieces l.fn.tokens));
   fewer : length l.rest ≤ length l.fn.tokens;
 }
 

@@ -4,7 +4,7 @@ use Rattle.ss_ast.specs.Expressions.{expr_tree, grouped}
 use Rattle.ss_ast.specs.Programs.{AllOf, ElementsOf, OneOf}
 use Rattle.ss_grammar.specs.Stops.{GivesMore}
 use Rattle.ss_grammar_expressions.specs.Heads.{is, pieces, postfix_head}
-use Rattle.ss_ast.specs.Parts.{postfix_behind}
+use Rattle.ss_ast.specs.Parts.{postfix_after}
 use Rattle.ss_grammar_programs.specs.Again.{another}
 use Rattle.ss_grammar_programs.specs.Parser.{step}
 use Rattle.ss_decls.specs.declared.modified.TermStep.{TermStep}
@@ -16,7 +16,7 @@ pub returns-in-All-clause-gives : goal.returns-in-All-clause-gives
 returns-in-All-clause-gives c =
     let p = c.args.place in
     let a = expr_tree c.args.first.value in
-    let b = grouped p (expr_tree c.args.first.value) (map postfix_behind c.loop-postfixes.postfixes.items) in
+    let b = grouped p (expr_tree c.args.first.value) (map postfix_after c.loop-postfixes.postfixes.items) in
     let rest = c.loop-postfixes.rest.now in
     let after = c.in-Some.after.now in
     let g = subst (λ o. GivesMore (λ x. (step_of x.0, pieces x.1.now)) (Ok o) (another (is postfix_head) (step c.args.depth) (pieces rest))) c.in-Some.is c.in_ok-step.ensures.gives in
@@ -29,7 +29,7 @@ pub returns-in-Elements-clause-gives : goal.returns-in-Elements-clause-gives
 returns-in-Elements-clause-gives c =
     let p = c.args.place in
     let a = expr_tree c.args.first.value in
-    let b = grouped p (expr_tree c.args.first.value) (map postfix_behind c.loop-postfixes.postfixes.items) in
+    let b = grouped p (expr_tree c.args.first.value) (map postfix_after c.loop-postfixes.postfixes.items) in
     let rest = c.loop-postfixes.rest.now in
     let after = c.in-Some.after.now in
     let g = subst (λ o. GivesMore (λ x. (step_of x.0, pieces x.1.now)) (Ok o) (another (is postfix_head) (step c.args.depth) (pieces rest))) c.in-Some.is c.in_ok-step.ensures.gives in
@@ -43,7 +43,7 @@ loop-postfixes-preserved c =
     let p = c.args.place in
     let a = expr_tree c.args.first.value in
     let e = expr_tree c.args.first.value in
-    let b = grouped p e (map postfix_behind c.loop-postfixes.postfixes.items) in
+    let b = grouped p e (map postfix_after c.loop-postfixes.postfixes.items) in
     let rest = c.loop-postfixes.rest.now in
     let after = c.in-Some.after.now in
     let g = subst (λ o. GivesMore (λ x. (step_of x.0, pieces x.1.now)) (Ok o) (another (is postfix_head) (step c.args.depth) (pieces rest))) c.in-Some.is c.in_ok-step.ensures.gives in
@@ -59,7 +59,7 @@ pub returns-clause-gives : goal.returns-clause-gives
 returns-clause-gives c =
     let p = c.args.place in
     let a = expr_tree c.args.first.value in
-    let b = grouped p (expr_tree c.args.first.value) (map postfix_behind c.loop-postfixes.postfixes.items) in
+    let b = grouped p (expr_tree c.args.first.value) (map postfix_after c.loop-postfixes.postfixes.items) in
     let rest = c.loop-postfixes.rest.now in
     let g = subst (λ o. GivesMore (λ x. (step_of x.0, pieces x.1.now)) (Ok o) (another (is postfix_head) (step c.args.depth) (pieces rest))) c.in_default.is c.in_ok-step.ensures.gives in
     ends_path p c.args.depth a c.args.tokens.now b rest g c.loop-postfixes.invariant.turns ∙ ap (λ e. Ok (OneOf e, pieces rest)) (sym c.in_ok-path.ensures)

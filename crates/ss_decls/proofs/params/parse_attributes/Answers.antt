@@ -7,7 +7,7 @@ use Rattle.ss_grammar.specs.Stops.{GivesMore}
 use Rattle.ss_grammar_expressions.specs.First.{tokened}
 use Rattle.ss_grammar_expressions.specs.Heads.{the, pieces}
 use Rattle.ss_grammar.proofs.Turns.{more_last}
-use Rattle.ss_grammar_programs.specs.Grammar.{push_behind}
+use Rattle.ss_grammar_programs.specs.Grammar.{push_after}
 use Rattle.ss_grammar_programs.specs.Parser.{attribute}
 use Rattle.ss_decls.proofs.Readers.{attributes_is}
 use Rattle.ss_decls.proofs.Collect.{pushed}
@@ -32,4 +32,4 @@ returns-clause-gives c =
     let f = tokened (the symbol.OpenBracket) in
     let k = attribute c.args.depth in
     let g = subst (λ o. GivesMore (λ x. (name_tree x.0, pieces x.1.now)) (Ok o) (one_more f k (pieces rest))) c.in_default.is c.in_ok-name.ensures.gives in
-    attributes_is c.args.depth (pieces c.args.tokens.now) ∙ more_last f k push_behind (map name_tree c.loop-names.names.items) (pieces rest) _ g c.loop-names.invariant.turns
+    attributes_is c.args.depth (pieces c.args.tokens.now) ∙ more_last f k push_after (map name_tree c.loop-names.names.items) (pieces rest) _ g c.loop-names.invariant.turns

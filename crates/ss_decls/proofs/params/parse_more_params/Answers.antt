@@ -8,7 +8,7 @@ use Rattle.ss_ast.specs.Programs.{param_tree}
 use Rattle.ss_grammar.specs.Stops.{GivesMore}
 use Rattle.ss_grammar.specs.Reading.{one_more}
 use Rattle.ss_grammar.proofs.Turns.{more_last}
-use Rattle.ss_grammar_programs.specs.Grammar.{push_behind}
+use Rattle.ss_grammar_programs.specs.Grammar.{push_after}
 use Rattle.ss_decls.proofs.Collect.{pushed}
 use Rattle.ss_decls.proofs.params.parse_more_params.Goals as goal
 
@@ -31,4 +31,4 @@ returns-clause-gives c =
     let f = (the symbol.Comma) in
     let k = (λ (_ : Place). parameter c.args.depth) in
     let g = subst (λ o. GivesMore (λ x. (param_tree x.0, pieces x.1.now)) (Ok o) (one_more f k (pieces rest))) c.in_default.is c.in_ok-param.ensures.gives in
-    more_last f k push_behind (map param_tree c.loop-params.params.items) (pieces rest) _ g c.loop-params.invariant.turns
+    more_last f k push_after (map param_tree c.loop-params.params.items) (pieces rest) _ g c.loop-params.invariant.turns

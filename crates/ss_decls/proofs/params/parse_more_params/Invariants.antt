@@ -6,12 +6,12 @@ use Rattle.ss_grammar_programs.specs.Parser.{parameter}
 use Rattle.ss_ast.specs.Programs.{param_tree}
 use Rattle.ss_grammar.specs.Reading.{times}
 use Rattle.ss_grammar.proofs.Turns.{Turns}
-use Rattle.ss_grammar_programs.specs.Grammar.{push_behind}
+use Rattle.ss_grammar_programs.specs.Grammar.{push_after}
 use Rattle.ss_decls.proofs.params.parse_more_params.Given as goal
 
 abbrev pub invariant-loop-params : goal.invariant-loop-params
 invariant-loop-params l = record {
-  turns : Turns (the symbol.Comma) (λ (_ : Place). parameter l.depth) push_behind (map param_tree l.params.items) (pieces l.rest) (times (the symbol.Comma) (λ (_ : Place). parameter l.depth) push_behind (length (pieces l.fn.tokens)) (map param_tree l.fn.first.items) (pieces l.fn.tokens));
+  turns : Turns (the symbol.Comma) (λ (_ : Place). parameter l.depth) push_after (map param_tree l.params.items) (pieces l.rest) (times (the symbol.Comma) (λ (_ : Place). parameter l.depth) push_after (length (pieces l.fn.tokens)) (map param_tree l.fn.first.items) (pieces l.fn.tokens));
   fewer : length l.rest ≤ length l.fn.tokens;
 }
 

@@ -5,7 +5,7 @@ use Rattle.ss_typed.specs.declared.expr.TypedExpr.TheOpen as shape
 use Rattle.ss_typed.specs.declared.expr.TypedExpr.TheOpen.{TypedLink-F}
 use Rattle.ss_typed.specs.Tree.{ExprTree}
 use Rattle.ss_typed.specs.View.{Behind, expr, link_step}
-use Rattle.ss_typed.specs.Parts.{step_behind, stepped}
+use Rattle.ss_typed.specs.Parts.{step_after, stepped}
 use Rattle.ss_typed.proofs.Grouping.{chain_alone, chain_is, chain_some, path_alone, path_is, stepped_push}
 use Rattle.ss_expand_lifting.specs.declared.lefts.Left.{Left}
 use Rattle.ss_expand_lifting.specs.Lefts.{IsLeft, may_be_left}
@@ -26,7 +26,7 @@ returns-in-Some t c =
     let before = c.in-Some.before.now in
     let first = expr a.first.value in
     left_along _ _ _
-    (ap (λ x. step_behind last a.place (stepped a.place (expr x) before)) c.deref-in-Some.ensures
+    (ap (λ x. step_after last a.place (stepped a.place (expr x) before)) c.deref-in-Some.ensures
     ∙ sym (stepped_push a.place first before last)
     ∙ ap (stepped a.place first) (sym c.in-Some.ensures.cases.0 ∙ c.deref.ensures.value)
     ∙ sym (path_is a.place a.first a.steps) ∙ ap expr (sym a.is))

@@ -19,5 +19,5 @@ returns c =
     let taken = c.in_ok-front.front.length in
     let begun = stepped p e (take taken steps) in
     operand_along s _ _ before types _ _ _
-    (ap (stepped p begun) c.steps_behind-rest.ensures ∙ stepped_split p e steps taken)
-    (c.in_ok-whole.ensures begun before types front.operand (steps_go_along p begun _ _ c.steps_behind-rest.ensures front.go_on))
+    (ap (stepped p begun) c.steps_after-rest.ensures ∙ stepped_split p e steps taken)
+    (c.in_ok-whole.ensures begun before types front.operand (steps_go_along p begun _ _ c.steps_after-rest.ensures front.go_on))

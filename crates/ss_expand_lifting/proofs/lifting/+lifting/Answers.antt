@@ -7,12 +7,12 @@ use Rattle.ss_typed.specs.View as typed
 use Rattle.ss_expand_rules.specs.Lifting as elab
 use Rattle.ss_typed.specs.Lookups as lookups
 use Rattle.ss_expand_expressions.specs.Parameters.{param_types}
-use Rattle.ss_typed.specs.Parts.{link_behind, linked, step_behind, stepped}
-use Rattle.ss_expand_expressions.specs.Sources.{stmts_of, source_of, lifted_behind, valued_behind, listed_behind}
+use Rattle.ss_typed.specs.Parts.{link_after, linked, step_after, stepped}
+use Rattle.ss_expand_expressions.specs.Sources.{stmts_of, source_of, lifted_after, valued_after, listed_after}
 use Rattle.ss_expand_expressions.proofs.Shapes.{linked_next, stepped_next}
 use Rattle.ss_expand_lifting.specs.Contexts.{context_of}
 use Rattle.ss_expand_lifting.specs.Operations.{test_of, values_of}
-use Rattle.ss_expand_lifting.proofs.Joins.{with_call, without_call, unlifted_behind, value_as_it_is, values_as_they_are, unary_kept, binary_kept, array_behind, size_kept, size_plain, values_kept, values_plain, kept_any}
+use Rattle.ss_expand_lifting.proofs.Joins.{with_call, without_call, unlifted_after, value_as_it_is, values_as_they_are, unary_kept, binary_kept, array_after, size_kept, size_plain, values_kept, values_plain, kept_any}
 use Rattle.ss_expand_lifting.proofs.Links.{link_next_calls, step_next_calls, link_place, step_place, step_lazy, operand_along, links_go_along, steps_go_along}
 use Rattle.ss_typed.proofs.Grouping.{operation_is, is_is, as_is, field_is, element_is, length_is, call_is}
 use Rattle.ss_expand_lifting.proofs.Leaves.{others_stay}
@@ -33,8 +33,8 @@ lift-returns-in_ok-lift_iff-in-Iff t c = λ h.
 pub lift-returns-in_ok-value-in_default : goal.lift-returns-in_ok-value-in_default
 lift-returns-in_ok-value-in_default t c = λ h.
     let d = c.in_default in
-    unlifted_behind (stmts_of c.args.code.now.statements) _ _ c.args.made.now.items c.in_ok-value-in_default.ensures
-    ∙ ap (lifted_behind (stmts_of c.args.code.now.statements)) (sym (others_stay (context_of c.args.context.now) c.args.made.now.items c.args.e.now
+    unlifted_after (stmts_of c.args.code.now.statements) _ _ c.args.made.now.items c.in_ok-value-in_default.ensures
+    ∙ ap (lifted_after (stmts_of c.args.code.now.statements)) (sym (others_stay (context_of c.args.context.now) c.args.made.now.items c.args.e.now
     (record { iff = d.not-Iff; implies = d.not-Implies; chain = d.not-Chain; negate = d.not-Negate; no = d.not-Not; cast = d.not-Cast; path = d.not-Path; new = d.not-New; new_array = d.not-NewArray; static = d.not-Static; base = d.not-Base })))
 
 pub lift_iff-returns : goal.lift_iff-returns
@@ -78,7 +78,7 @@ lift-returns-in_ok-lift_array-in-NewArray t c = λ h.
 
 pub lift_array-returns : goal.lift_array-returns
 lift_array-returns t c =
-    array_behind c.args.place c.args.class.0 (context_of c.args.context.now) (typed.expr c.args.e.now) (stmts_of c.args.code.now.statements) _ _ c.args.made.now.items _ c.in_ok-size.ensures
+    array_after c.args.place c.args.class.0 (context_of c.args.context.now) (typed.expr c.args.e.now) (stmts_of c.args.code.now.statements) _ _ c.args.made.now.items _ c.in_ok-size.ensures
 
 pub lift_kept-returns : goal.lift_kept-returns
 lift_kept-returns t c =
@@ -117,7 +117,7 @@ lift_link-returns t c = λ e before types h calls.
     let p = c.args.place in
     let link = c.args.link.now in
     record {
-      lifted = c.in_ok-source.ensures e before types h ∙ ap (lifted_behind before) (sym (with_call (context_of c.args.context.now) (link_behind link p e) types calls));
+      lifted = c.in_ok-source.ensures e before types h ∙ ap (lifted_after before) (sym (with_call (context_of c.args.context.now) (link_after link p e) types calls));
       place = sym (link_place link p e);
       ty = sym (c.link_type.ensures p e);
       calls = sym calls;
@@ -129,7 +129,7 @@ lift_step-returns t c = λ e before types h calls.
     let p = c.args.place in
     let step = c.args.step.now in
     record {
-      lifted = c.in_ok-source.ensures e before types h ∙ ap (lifted_behind before) (sym (with_call (context_of c.args.context.now) (step_behind step p e) types calls));
+      lifted = c.in_ok-source.ensures e before types h ∙ ap (lifted_after before) (sym (with_call (context_of c.args.context.now) (step_after step p e) types calls));
       place = sym (step_place step p e);
       ty = sym (c.step_type-ty.ensures p e (sym h.ty));
       calls = sym calls;
@@ -157,12 +157,12 @@ lift_lazily-returns t c =
     let s = context_of c.args.context.now in
     let b = typed.expr c.args.b.now in
     lazily_ends c.args.left.place b (test_of c.args.left.place c.args.left.holds) c.args.left.x (stmts_of c.args.code.now.statements) _ _ _ (LocalExpr c.args.left.place c.args.left.x) _ _ _ c.args.made.now.items _ (elab.right_side s b c.args.made.now.items)
-    (c.in_ok-source.ensures ∙ ap (λ code. lifted_behind code (elab.right_side s b c.args.made.now.items)) c.new-inner.ensures)
+    (c.in_ok-source.ensures ∙ ap (λ code. lifted_after code (elab.right_side s b c.args.made.now.items)) c.new-inner.ensures)
     c.in_ok-test.ensures c.place_of.ensures c.in_ok-value.ensures.code c.in_ok-value.ensures.value
 
 pub arguments-returns : goal.arguments-returns
 arguments-returns t c =
-    c.in_ok-values.ensures ∙ ap (λ k. listed_behind (stmts_of c.args.code.now.statements) (values_of (context_of c.args.context.now) (param_types c.args.params.now) k (arguments (typed.exprs c.args.es.now)) c.args.made.now.items)) c.have_call.ensures
+    c.in_ok-values.ensures ∙ ap (λ k. listed_after (stmts_of c.args.code.now.statements) (values_of (context_of c.args.context.now) (param_types c.args.params.now) k (arguments (typed.exprs c.args.es.now)) c.args.made.now.items)) c.have_call.ensures
 
 pub lift_all-loop-e-preserved : goal.lift_all-loop-e-preserved
 lift_all-loop-e-preserved t c =
@@ -178,12 +178,12 @@ lift_all-returns t c =
 pub right_side-returns-in_ok-source : goal.right_side-returns-in_ok-source
 right_side-returns-in_ok-source t c =
     c.in_ok-source.ensures (sym c.has_call.ensures ∙ c.if-has_call.true)
-    ∙ ap (lifted_behind (stmts_of c.args.code.now.statements)) (sym (with_call (context_of c.args.context.now) (typed.expr c.args.e.now) c.args.made.now.items (sym c.has_call.ensures ∙ c.if-has_call.true)))
+    ∙ ap (lifted_after (stmts_of c.args.code.now.statements)) (sym (with_call (context_of c.args.context.now) (typed.expr c.args.e.now) c.args.made.now.items (sym c.has_call.ensures ∙ c.if-has_call.true)))
 
 pub right_side-returns-in_ok-value : goal.right_side-returns-in_ok-value
 right_side-returns-in_ok-value t c =
-    unlifted_behind (stmts_of c.args.code.now.statements) _ _ c.args.made.now.items c.in_ok-value.ensures
-    ∙ ap (lifted_behind (stmts_of c.args.code.now.statements)) (sym (without_call (context_of c.args.context.now) (typed.expr c.args.e.now) c.args.made.now.items (sym c.has_call.ensures ∙ c.if-has_call.false)))
+    unlifted_after (stmts_of c.args.code.now.statements) _ _ c.args.made.now.items c.in_ok-value.ensures
+    ∙ ap (lifted_after (stmts_of c.args.code.now.statements)) (sym (without_call (context_of c.args.context.now) (typed.expr c.args.e.now) c.args.made.now.items (sym c.has_call.ensures ∙ c.if-has_call.false)))
 
 pub lift_negated-returns-in_ok-negated : goal.lift_negated-returns-in_ok-negated
 lift_negated-returns-in_ok-negated t c =
@@ -198,21 +198,21 @@ lift_negated-returns-in_ok-negated-2 t c =
 pub lift_size-returns-in_ok-value : goal.lift_size-returns-in_ok-value
 lift_size-returns-in_ok-value t c =
     c.in_ok-value.ensures ∙ kept_any (context_of c.args.context.now) _ (typed.expr c.args.e.now) (stmts_of c.args.code.now.statements) c.args.made.now.items c.any_object.ensures
-    ∙ ap (valued_behind (stmts_of c.args.code.now.statements)) (sym (size_kept (context_of c.args.context.now) (typed.expr c.args.e.now) c.args.made.now.items (sym c.has_call.ensures ∙ c.if-has_call.true)))
+    ∙ ap (valued_after (stmts_of c.args.code.now.statements)) (sym (size_kept (context_of c.args.context.now) (typed.expr c.args.e.now) c.args.made.now.items (sym c.has_call.ensures ∙ c.if-has_call.true)))
 
 pub lift_size-returns-in_ok-value-2 : goal.lift_size-returns-in_ok-value-2
 lift_size-returns-in_ok-value-2 t c =
     value_as_it_is (stmts_of c.args.code.now.statements) _ _ c.args.made.now.items c.in_ok-value-2.ensures
-    ∙ ap (valued_behind (stmts_of c.args.code.now.statements)) (sym (size_plain (context_of c.args.context.now) (typed.expr c.args.e.now) c.args.made.now.items (sym c.has_call.ensures ∙ c.if-has_call.false)))
+    ∙ ap (valued_after (stmts_of c.args.code.now.statements)) (sym (size_plain (context_of c.args.context.now) (typed.expr c.args.e.now) c.args.made.now.items (sym c.has_call.ensures ∙ c.if-has_call.false)))
 
 pub lift_values-returns-in_ok-values : goal.lift_values-returns-in_ok-values
 lift_values-returns-in_ok-values t c =
-    c.in_ok-values.ensures ∙ ap (listed_behind (stmts_of c.args.code.now.statements)) (sym (values_kept (context_of c.args.context.now) (param_types c.args.params.now) c.args.kept (arguments (typed.exprs c.args.es.now)) c.args.made.now.items c.if-kept.true))
+    c.in_ok-values.ensures ∙ ap (listed_after (stmts_of c.args.code.now.statements)) (sym (values_kept (context_of c.args.context.now) (param_types c.args.params.now) c.args.kept (arguments (typed.exprs c.args.es.now)) c.args.made.now.items c.if-kept.true))
 
 pub lift_values-returns-in_ok-values-2 : goal.lift_values-returns-in_ok-values-2
 lift_values-returns-in_ok-values-2 t c =
     values_as_they_are (stmts_of c.args.code.now.statements) _ _ c.args.made.now.items c.in_ok-values-2.ensures
-    ∙ ap (listed_behind (stmts_of c.args.code.now.statements)) (sym (values_plain (context_of c.args.context.now) (param_types c.args.params.now) c.args.kept (arguments (typed.exprs c.args.es.now)) c.args.made.now.items c.if-kept.false))
+    ∙ ap (listed_after (stmts_of c.args.code.now.statements)) (sym (values_plain (context_of c.args.context.now) (param_types c.args.params.now) c.args.kept (arguments (typed.exprs c.args.es.now)) c.args.made.now.items c.if-kept.false))
 
 pub lift_operation-returns-in_ok-source : goal.lift_operation-returns-in_ok-source
 lift_operation-returns-in_ok-source t c = λ e before types h.
@@ -273,12 +273,12 @@ lift_base-returns t c = λ ty.
 pub lift-lift_chain-requires : goal.lift-lift_chain-requires
 lift-lift_chain-requires t c =
     let a = c.in-Chain in
-    (omega (arith, links_fall a.place a.first a.links c.args.e.now _ _ _ a.is c.as_slice-list.ensures.value c.links_behind-rest.ensures), tt)
+    (omega (arith, links_fall a.place a.first a.links c.args.e.now _ _ _ a.is c.as_slice-list.ensures.value c.links_after-rest.ensures), tt)
 
 pub lift-lift_path-requires : goal.lift-lift_path-requires
 lift-lift_path-requires t c =
     let a = c.in-Path in
-    (omega (arith, steps_fall a.place a.first a.steps c.args.e.now _ _ _ a.is c.as_slice-list-in-Path.ensures.value c.steps_behind-rest.ensures), tt)
+    (omega (arith, steps_fall a.place a.first a.steps c.args.e.now _ _ _ a.is c.as_slice-list-in-Path.ensures.value c.steps_after-rest.ensures), tt)
 
 pub lift-returns-in_ok-lift_chain-in-Chain : goal.lift-returns-in_ok-lift_chain-in-Chain
 lift-returns-in_ok-lift_chain-in-Chain t c = λ h.
@@ -287,7 +287,7 @@ lift-returns-in_ok-lift_chain-in-Chain t c = λ h.
     let before = stmts_of c.args.code.now.statements in
     let types = c.args.made.now.items in
     let front = c.in_ok-front-in-Chain.ensures.front s _ before types _ _ refl c.in_ok-operand-in-Chain.ensures in
-    let rest = c.links_behind-rest.ensures in
+    let rest = c.links_after-rest.ensures in
     let whole = c.in_ok-lift_chain-in-Chain.ensures _ before types front.operand (links_go_along _ _ _ _ rest front.go_on) in
     chain_lifts s a.place a.first a.links c.args.e.now _ _ _ _ before _ _ types _ a.is c.deref-in-Chain.ensures c.as_slice-list.ensures.value rest h whole
 
@@ -303,7 +303,7 @@ lift-returns-in_ok-lift_path-in-Path t c = λ h.
     let before = stmts_of c.args.code.now.statements in
     let types = c.args.made.now.items in
     let front = c.in_ok-front-in-Path.ensures.front s _ before types _ _ refl c.in_ok-operand-in-Path.ensures in
-    let rest = c.steps_behind-rest.ensures in
+    let rest = c.steps_after-rest.ensures in
     let whole = c.in_ok-lift_path-in-Path.ensures _ before types front.operand (steps_go_along _ _ _ _ rest front.go_on) in
     path_lifts s a.place a.first a.steps c.args.e.now _ _ _ _ before _ _ types _ a.is c.deref-in-Path.ensures c.as_slice-list-in-Path.ensures.value rest h whole
 
@@ -312,22 +312,22 @@ lift_path-returns t c = λ e before types h g.
     let whole = c.in_ok-whole.ensures e before types h g in
     whole.lifted
 
-pub lift_behind-returns-in_ok-source-in-Operation : goal.lift_behind-returns-in_ok-source-in-Operation
-lift_behind-returns-in_ok-source-in-Operation t c = λ e before types h.
+pub lift_after-returns-in_ok-source-in-Operation : goal.lift_after-returns-in_ok-source-in-Operation
+lift_after-returns-in_ok-source-in-Operation t c = λ e before types h.
     let a = c.in-Operation in
     let s = context_of c.args.context.now in
     let p = c.args.place in
     link_lifts s p e _ c.args.link.now _ before _ _ types _ a.is (operation_is a.operator a.b p e) (c.in_ok-source-in-Operation.ensures e before types h)
 
-pub lift_behind-returns-in_ok-source-in-Is : goal.lift_behind-returns-in_ok-source-in-Is
-lift_behind-returns-in_ok-source-in-Is t c = λ e before types h.
+pub lift_after-returns-in_ok-source-in-Is : goal.lift_after-returns-in_ok-source-in-Is
+lift_after-returns-in_ok-source-in-Is t c = λ e before types h.
     let a = c.in-Is in
     let s = context_of c.args.context.now in
     let p = c.args.place in
     link_lifts s p e _ c.args.link.now _ before _ _ types _ a.is (is_is a.class p e) (c.in_ok-source-in-Is.ensures s e before types refl h)
 
-pub lift_behind-returns-in_ok-source-in-As : goal.lift_behind-returns-in_ok-source-in-As
-lift_behind-returns-in_ok-source-in-As t c = λ e before types h.
+pub lift_after-returns-in_ok-source-in-As : goal.lift_after-returns-in_ok-source-in-As
+lift_after-returns-in_ok-source-in-As t c = λ e before types h.
     let a = c.in-As in
     let s = context_of c.args.context.now in
     let p = c.args.place in

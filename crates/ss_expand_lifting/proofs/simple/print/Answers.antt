@@ -7,7 +7,7 @@ use Rattle.ss_expand_rules.specs.Simple as simple
 use Rattle.ss_expand_expressions.specs.Sources.{stmts_of}
 use Rattle.ss_expand_lifting.specs.Contexts.{context_of}
 use Rattle.ss_expand_lifting.proofs.Codes.{coded_as}
-use Rattle.ss_expand_lifting.proofs.Statements.{printed_behind}
+use Rattle.ss_expand_lifting.proofs.Statements.{printed_after}
 use Rattle.ss_expand_lifting.proofs.simple.print.Goals as goal
 
 pub returns-in_ok-add_print-in-Some : goal.returns-in_ok-add_print-in-Some
@@ -16,7 +16,7 @@ returns-in_ok-add_print-in-Some c =
     let s = context_of c.args.context.now in
     let before = stmts_of c.args.code.now.statements in
     let kinds = c.args.made.now.items in
-    printed_behind c.args.place c.args.line before _ _ _ _ (lifting.value s (expr a.e) kinds) c.in_ok-value-in-Some.ensures c.in_ok-add_print-in-Some.ensures
+    printed_after c.args.place c.args.line before _ _ _ _ (lifting.value s (expr a.e) kinds) c.in_ok-value-in-Some.ensures c.in_ok-add_print-in-Some.ensures
     ∙ ap (λ x. after before (simple.print s c.args.place (option_map expr x) c.args.line kinds)) (sym a.is)
 
 pub returns-in_ok-add_print-in-None : goal.returns-in_ok-add_print-in-None

@@ -7,8 +7,8 @@ use Rattle.ss_typed.specs.Types.{type_of}
 use Rattle.ss_typed.specs.Shapes.{place_of}
 use Rattle.ss_expand_rules.specs.Lifting.{Lifted, Valued, right_side, in_local, next, temporary_type, any_object}
 use Rattle.ss_expand_expressions.specs.Operands.{valued_as}
-use Rattle.ss_expand_expressions.specs.Sources.{stmts_of, lifted_by, valued_by, valued_behind}
-use Rattle.ss_expand_expressions.proofs.Behind.{in_local_behind}
+use Rattle.ss_expand_expressions.specs.Sources.{stmts_of, lifted_by, valued_by, valued_after}
+use Rattle.ss_expand_expressions.proofs.Behind.{in_local_after}
 use Rattle.ss_expand_lifting.specs.Contexts.{context_of}
 use Rattle.ss_expand_programs.proofs.exposing.put_object.Goals as goal
 
@@ -23,13 +23,13 @@ returns-clause-kept c =
     let ty = temporary_type any_object (type_of e) in
     let number : x ≡ next s.numbers l.made = c.in_ok-x.ensures ∙ ap (λ (ts : List Ty). next s.numbers ts) c.deref.ensures.value ∙ ap (λ (y : Lifted). next s.numbers y.made) c.in_ok-source.ensures in
     let wanted : c.temporary_type-ty.result ≡ ty = c.temporary_type-ty.ensures ∙ ap (λ t. temporary_type t c.type_of.result) c.any_object.ensures ∙ ap (λ t. temporary_type any_object t) c.type_of.ensures in
-    let kept : valued_by c.in_local.new.code c.in_local.new.made c.in_ok-in_local.field-0 ≡ valued_behind before (in_local (place_of e) (next s.numbers l.made) ty l) =
+    let kept : valued_by c.in_local.new.code c.in_local.new.made c.in_ok-in_local.field-0 ≡ valued_after before (in_local (place_of e) (next s.numbers l.made) ty l) =
     c.in_ok-in_local.ensures
     ∙ ap (λ p. in_local p x c.temporary_type-ty.result lifted) c.place_of-place.ensures
     ∙ ap (λ n. in_local (place_of e) n c.temporary_type-ty.result lifted) number
     ∙ ap (λ t. in_local (place_of e) (next s.numbers l.made) t lifted) wanted
     ∙ ap (λ (y : Lifted). in_local (place_of e) (next s.numbers l.made) ty y) c.in_ok-source.ensures
-    ∙ in_local_behind (place_of e) (next s.numbers l.made) ty before l in
+    ∙ in_local_after (place_of e) (next s.numbers l.made) ty before l in
     let value : LocalExpr (place_of e) x ≡ core.expr c.in_ok-in_local.field-0 = ap (λ y. LocalExpr (place_of e) y) number ∙ sym (ap (λ (v : Valued). v.value) kept) in
     ap (λ (v : ExprTree). valued_as (stmts_of c.in_local.new.code) v c.in_local.new.made.items) value ∙ kept
 

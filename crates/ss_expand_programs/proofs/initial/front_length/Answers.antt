@@ -5,7 +5,7 @@ use Rattle.std.proofs.lemmas.List.{take-map, drop-map}
 use Rattle.ss_typed.specs.Tree.{Before, stmt_trees, TypedTree}
 use Rattle.ss_typed.specs.View as typed
 use Rattle.ss_paths.specs.Opening.{is_first}
-use Rattle.ss_expand_rules.specs.Constructors.{behind_initial, before_all}
+use Rattle.ss_expand_rules.specs.Constructors.{after_initial, before_all}
 use Rattle.ss_expand_rules.specs.Ends.{all_can_end}
 use Rattle.ss_expand_programs.proofs.Lists.{split_initial, front_ends}
 use Rattle.ss_expand_programs.proofs.initial.front_length.Goals as goal
@@ -22,7 +22,7 @@ returns c =
     record {
       within = c.count_first-count.ensures.within;
       split = λ s.
-          ap (λ d. if d then Before s (stmt_trees trees) else behind_initial p b.class s (stmt_trees trees)) c.if-body.false
+          ap (λ d. if d then Before s (stmt_trees trees) else after_initial p b.class s (stmt_trees trees)) c.if-body.false
           ∙ split_initial p b.class s trees
           ∙ ap (λ k. before_all (stmt_trees (take k trees)) (Before s (stmt_trees (drop k trees)))) (sym counted)
           ∙ ap (λ xs. before_all (stmt_trees xs) (Before s (stmt_trees (drop n trees)))) (take-map typed.stmt_of n ss)

@@ -6,7 +6,7 @@ use Rattle.ss_typed.specs.Shapes.{place_of}
 use Rattle.ss_expand_rules.specs.Lifting.{Lifted, right_side, in_temporary}
 use Rattle.ss_expand_rules.specs.Statements.{result_type}
 use Rattle.ss_expand_expressions.specs.Sources.{stmts_of, lifted_by}
-use Rattle.ss_expand_expressions.proofs.Behind.{in_temporary_behind}
+use Rattle.ss_expand_expressions.proofs.Behind.{in_temporary_after}
 use Rattle.ss_expand_lifting.specs.Contexts.{context_of}
 use Rattle.ss_expand_programs.proofs.leaving.kept_result.Goals as goal
 
@@ -22,4 +22,4 @@ returns c =
     ∙ ap (λ (p : Place). in_temporary s.numbers p c.result_type-ty.result lifted) c.place_of-place.ensures
     ∙ ap (λ (t : Ty). in_temporary s.numbers (place_of e) t lifted) c.result_type-ty.ensures
     ∙ ap (λ (y : Lifted). in_temporary s.numbers (place_of e) ty y) c.in_ok-source.ensures
-    ∙ in_temporary_behind s.numbers (place_of e) ty before l
+    ∙ in_temporary_after s.numbers (place_of e) ty before l

@@ -12,7 +12,7 @@ use Rattle.ss_ast.proofs.Loops.{drop_item}
 use Rattle.ss_expand_bodies.specs.Exposes.{opened_of}
 use Rattle.ss_expand_lifting.specs.Contexts.{context_of}
 use Rattle.ss_expand_programs.specs.Loops.{tested, turn_of}
-use Rattle.ss_expand_programs.proofs.Codes.{coded, one_then, behind_new, value_behind_new, branched, looped, loop_tested, turned, exposed_by, stmts_where, next_stmt, ends_next}
+use Rattle.ss_expand_programs.proofs.Codes.{coded, one_then, after_new, value_after_new, branched, looped, loop_tested, turned, exposed_by, stmts_where, next_stmt, ends_next}
 use Rattle.ss_expand_programs.proofs.statements.+statements.Goals as goal
 
 pub add_if-returns-clause-coded : goal.add_if-returns-clause-coded
@@ -25,7 +25,7 @@ add_if-returns-clause-coded t c =
     branched c.args.place (stmts_of c.args.code.now.statements) (stmts_of c.boxed_value.new.code.statements) (stmts_of c.add_branch.new.code.statements) one (stmts_of c.new-other.result.statements)
     (core.expr c.in_ok-test.test.value) m1 m2 m2 (value s (typed.expr c.args.e.now) c.args.made.now.items) f nothing
     c.in_ok-test.ensures
-    (behind_new (stmts_of c.new-one.result.statements) one m2 (f m1) c.new-one.ensures c.in_ok-add_stmt.ensures.coded)
+    (after_new (stmts_of c.new-one.result.statements) one m2 (f m1) c.new-one.ensures c.in_ok-add_stmt.ensures.coded)
     (ap (λ x. coded x m2) c.new-other.ensures)
     c.in_ok-add_branch.ensures
 
@@ -40,8 +40,8 @@ add_while-returns t c =
     let inner = stmts_of c.add_stmt.new.code.statements in
     let test = core.expr c.in_ok-test.test.value in
     looped s c.args.place (typed.exprs c.args.guard.invariants.now) (stmts_of c.args.code.now.statements) (stmts_of c.add_loop.new.code.statements) prelude inner test m1 m2 v f
-    (value_behind_new (stmts_of c.new-prelude.result.statements) prelude test m1 v c.new-prelude.ensures c.in_ok-test.ensures)
-    (behind_new (stmts_of c.new-inner.result.statements) inner m2 (f m1) c.new-inner.ensures c.in_ok-add_stmt.ensures.coded)
+    (value_after_new (stmts_of c.new-prelude.result.statements) prelude test m1 v c.new-prelude.ensures c.in_ok-test.ensures)
+    (after_new (stmts_of c.new-inner.result.statements) inner m2 (f m1) c.new-inner.ensures c.in_ok-add_stmt.ensures.coded)
     c.in_ok-add_loop.ensures
 
 pub add_turns-returns : goal.add_turns-returns
@@ -61,7 +61,7 @@ add_turns-returns t c =
     let inner = stmts_of c.advance_where.new.code.statements in
     let test = core.expr c.in_ok-test.test.value in
     looped s p is before (stmts_of c.add_loop.new.code.statements) prelude inner test m1 m3 v (turn_of s a x)
-    (value_behind_new (stmts_of c.new-prelude.result.statements) prelude test m1 v c.new-prelude.ensures c.in_ok-test.ensures)
+    (value_after_new (stmts_of c.new-prelude.result.statements) prelude test m1 v c.new-prelude.ensures c.in_ok-test.ensures)
     (turned s a x (stmts_of c.new-inner.result.statements) (stmts_of c.add_stmt.new.code.statements) inner m1 m2 m3 c.in_ok-reached.reached c.new-inner.ensures c.in_ok-reached.ensures.coded c.in_ok-reached.ensures.ends c.in_ok-advance_where.ensures)
     c.in_ok-add_loop.ensures
     ∙ ap (λ (y : Coded). after before y) (loop_tested s p is e (turn_of s a x) c.args.made.now.items)

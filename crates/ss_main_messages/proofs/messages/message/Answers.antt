@@ -4,7 +4,7 @@ use Rattle.std.specs.Fmt.{decimal}
 use Rattle.ss_main_messages.specs.Messages.{heading}
 use Rattle.ss_main_messages.proofs.messages.message.Goals as goal
 
--- the parts of a message, one behind the other
+-- the parts of a message, one after the other
 parts : (f c l m h s n p : List ℕ) → f ++ (c ++ (l ++ (c ++ (m ++ (h ++ (s ++ (n ++ p))))))) ≡ f ++ c ++ l ++ c ++ m ++ h ++ s ++ n ++ p
 parts f c l m h s n p = simp append_assoc
 

@@ -6,7 +6,7 @@ use Rattle.ss_typed.specs.declared.expr.TypedStep.{TypedStep}
 use Rattle.ss_typed.specs.Tree.{ExprTree, BinaryOf, IsOf, AsOf, FieldOf, ElementOf, LengthOf, CallOf, arguments}
 use Rattle.ss_typed.specs.View.{expr}
 use Rattle.ss_nonnull_rules.specs.Faults.{inside, wanted_if, handed}
-use Rattle.ss_typed.specs.Parts.{link_behind, step_behind}
+use Rattle.ss_typed.specs.Parts.{link_after, step_after}
 use Rattle.ss_nonnull_seen.specs.Called.{called_types}
 use Rattle.ss_typed.proofs.Grouping.{as_is, call_is, element_is, field_is, is_is, length_is, operation_is}
 use Rattle.ss_nonnull_seen.specs.Codes.{path_of, context_of, seen_of}
@@ -51,28 +51,28 @@ check_wanted-returns-clause-noted t c =
     c.in_ok-head.ensures.seen c.in_ok-head.ensures.noted c.in_ok-note_lacking.ensures
 
 pub check_links-loop-link-init : goal.check_links-loop-link-init
-check_links-loop-link-init t c = no_parts link_behind (context_of c.args.context.now) (path_of c.args.known.now) c.args.found.now.items (seen_of c.args.first) c.args.place c.args.links.now
+check_links-loop-link-init t c = no_parts link_after (context_of c.args.context.now) (path_of c.args.known.now) c.args.found.now.items (seen_of c.args.first) c.args.place c.args.links.now
 
 pub check_links-loop-link-preserved : goal.check_links-loop-link-preserved
 check_links-loop-link-preserved t c =
-    part_leads link_behind (context_of c.args.context.now) (path_of c.args.known.now) c.args.found.now.items _ _ (seen_of c.args.first) _ _ c.args.place c.args.links.now c.loop-link.link-index c.link-item.result
+    part_leads link_after (context_of c.args.context.now) (path_of c.args.known.now) c.args.found.now.items _ _ (seen_of c.args.first) _ _ c.args.place c.args.links.now c.loop-link.link-index c.link-item.result
     c.loop-link-test.true c.link-item.is c.in_ok-head.ensures c.loop-link.invariant
 
 pub check_links-returns : goal.check_links-returns
 check_links-returns t c =
-    parts_led link_behind (context_of c.args.context.now) (path_of c.args.known.now) c.args.found.now.items _ (seen_of c.args.first) _ c.args.place c.args.links.now c.loop-link.link-index c.loop-link-test.false c.loop-link.invariant
+    parts_led link_after (context_of c.args.context.now) (path_of c.args.known.now) c.args.found.now.items _ (seen_of c.args.first) _ c.args.place c.args.links.now c.loop-link.link-index c.loop-link-test.false c.loop-link.invariant
 
 pub check_steps-loop-step-init : goal.check_steps-loop-step-init
-check_steps-loop-step-init t c = no_parts step_behind (context_of c.args.context.now) (path_of c.args.known.now) c.args.found.now.items (seen_of c.args.first) c.args.place c.args.steps.now
+check_steps-loop-step-init t c = no_parts step_after (context_of c.args.context.now) (path_of c.args.known.now) c.args.found.now.items (seen_of c.args.first) c.args.place c.args.steps.now
 
 pub check_steps-loop-step-preserved : goal.check_steps-loop-step-preserved
 check_steps-loop-step-preserved t c =
-    part_leads step_behind (context_of c.args.context.now) (path_of c.args.known.now) c.args.found.now.items _ _ (seen_of c.args.first) _ _ c.args.place c.args.steps.now c.loop-step.step-index c.step-item.result
+    part_leads step_after (context_of c.args.context.now) (path_of c.args.known.now) c.args.found.now.items _ _ (seen_of c.args.first) _ _ c.args.place c.args.steps.now c.loop-step.step-index c.step-item.result
     c.loop-step-test.true c.step-item.is c.in_ok-head.ensures c.loop-step.invariant
 
 pub check_steps-returns : goal.check_steps-returns
 check_steps-returns t c =
-    parts_led step_behind (context_of c.args.context.now) (path_of c.args.known.now) c.args.found.now.items _ (seen_of c.args.first) _ c.args.place c.args.steps.now c.loop-step.step-index c.loop-step-test.false c.loop-step.invariant
+    parts_led step_after (context_of c.args.context.now) (path_of c.args.known.now) c.args.found.now.items _ (seen_of c.args.first) _ c.args.place c.args.steps.now c.loop-step.step-index c.loop-step-test.false c.loop-step.invariant
 
 pub check_operation-returns : goal.check_operation-returns
 check_operation-returns t c =
@@ -109,8 +109,8 @@ pub check_link-returns-in_ok-longer-in-Operation : goal.check_link-returns-in_ok
 check_link-returns-in_ok-longer-in-Operation t c =
     let a = c.in-Operation in
     let p = c.args.place in
-    leads_by (context_of c.args.context.now) (path_of c.args.known.now) c.args.found.now.items _ (seen_of c.args.head) _ (λ (e : ExprTree). BinaryOf p a.operator e (expr a.right)) (link_behind c.args.link.now p)
-    (λ e. ap (λ (l : TypedLink). link_behind l p e) a.is ∙ operation_is a.operator a.right p e) c.in_ok-longer-in-Operation.ensures
+    leads_by (context_of c.args.context.now) (path_of c.args.known.now) c.args.found.now.items _ (seen_of c.args.head) _ (λ (e : ExprTree). BinaryOf p a.operator e (expr a.right)) (link_after c.args.link.now p)
+    (λ e. ap (λ (l : TypedLink). link_after l p e) a.is ∙ operation_is a.operator a.right p e) c.in_ok-longer-in-Operation.ensures
 
 pub check_link-returns-in_ok-longer-in-Is : goal.check_link-returns-in_ok-longer-in-Is
 check_link-returns-in_ok-longer-in-Is t c =
@@ -118,8 +118,8 @@ check_link-returns-in_ok-longer-in-Is t c =
     let p = c.args.place in
     let s = context_of c.args.context.now in
     let k = path_of c.args.known.now in
-    leads_by s k c.args.found.now.items _ (seen_of c.args.head) _ (λ (e : ExprTree). IsOf p e a.field-0.0) (link_behind c.args.link.now p)
-    (λ e. ap (λ (l : TypedLink). link_behind l p e) a.is ∙ is_is a.field-0 p e)
+    leads_by s k c.args.found.now.items _ (seen_of c.args.head) _ (λ (e : ExprTree). IsOf p e a.field-0.0) (link_after c.args.link.now p)
+    (λ e. ap (λ (l : TypedLink). link_after l p e) a.is ∙ is_is a.field-0 p e)
     (tested_leads s k c.args.found.now.items (seen_of c.args.head) _ p a.field-0.0 c.in_ok-longer-in-Is.ensures)
 
 pub check_link-returns-in-As : goal.check_link-returns-in-As
@@ -128,8 +128,8 @@ check_link-returns-in-As t c =
     let p = c.args.place in
     let s = context_of c.args.context.now in
     let k = path_of c.args.known.now in
-    leads_by s k c.args.found.now.items _ (seen_of c.args.head) _ (λ (e : ExprTree). AsOf p e a.class.0) (link_behind c.args.link.now p)
-    (λ e. ap (λ (l : TypedLink). link_behind l p e) a.is ∙ as_is a.class p e)
+    leads_by s k c.args.found.now.items _ (seen_of c.args.head) _ (λ (e : ExprTree). AsOf p e a.class.0) (link_after c.args.link.now p)
+    (λ e. ap (λ (l : TypedLink). link_after l p e) a.is ∙ as_is a.class p e)
     (converted_leads s k c.args.found.now.items (seen_of c.args.head) _ p a.class.0 (c.plain.ensures ∙ ap (λ (u : Ty). plain p (Some u) false) c.class_type.ensures))
 
 pub check_step-returns-in-Field : goal.check_step-returns-in-Field
@@ -138,8 +138,8 @@ check_step-returns-in-Field t c =
     let p = c.args.place in
     let s = context_of c.args.context.now in
     let k = path_of c.args.known.now in
-    leads_by s k c.args.found.now.items _ (seen_of c.args.head) _ (λ (e : ExprTree). FieldOf p e a.field.0 a.ty) (step_behind c.args.step.now p)
-    (λ e. ap (λ (l : TypedStep). step_behind l p e) a.is ∙ field_is a.field a.ty p e)
+    leads_by s k c.args.found.now.items _ (seen_of c.args.head) _ (λ (e : ExprTree). FieldOf p e a.field.0 a.ty) (step_after c.args.step.now p)
+    (λ e. ap (λ (l : TypedStep). step_after l p e) a.is ∙ field_is a.field a.ty p e)
     (field_leads s k c.args.found.now.items (seen_of c.args.head) _ p a.field.0 a.ty c.field_read.ensures)
 
 pub check_step-returns-in-Element : goal.check_step-returns-in-Element
@@ -148,8 +148,8 @@ check_step-returns-in-Element t c =
     let p = c.args.place in
     let s = context_of c.args.context.now in
     let k = path_of c.args.known.now in
-    leads_by s k c.args.found.now.items _ (seen_of c.args.head) _ (λ (e : ExprTree). ElementOf p e (expr a.index)) (step_behind c.args.step.now p)
-    (λ e. ap (λ (l : TypedStep). step_behind l p e) a.is ∙ element_is a.index p e)
+    leads_by s k c.args.found.now.items _ (seen_of c.args.head) _ (λ (e : ExprTree). ElementOf p e (expr a.index)) (step_after c.args.step.now p)
+    (λ e. ap (λ (l : TypedStep). step_after l p e) a.is ∙ element_is a.index p e)
     (element_leads s k c.args.found.now.items _ (seen_of c.args.head) _ p (expr a.index) c.element_read.ensures c.in_ok-check-in-Element.ensures.noted)
 
 pub check_step-returns-in-Length : goal.check_step-returns-in-Length
@@ -158,8 +158,8 @@ check_step-returns-in-Length t c =
     let p = c.args.place in
     let s = context_of c.args.context.now in
     let k = path_of c.args.known.now in
-    leads_by s k c.args.found.now.items _ (seen_of c.args.head) _ (λ (e : ExprTree). LengthOf p e) (step_behind c.args.step.now p)
-    (λ e. ap (λ (l : TypedStep). step_behind l p e) a.is ∙ length_is p e)
+    leads_by s k c.args.found.now.items _ (seen_of c.args.head) _ (λ (e : ExprTree). LengthOf p e) (step_after c.args.step.now p)
+    (λ e. ap (λ (l : TypedStep). step_after l p e) a.is ∙ length_is p e)
     (length_leads s k c.args.found.now.items (seen_of c.args.head) _ p c.value.ensures)
 
 pub check_step-returns : goal.check_step-returns
@@ -169,8 +169,8 @@ check_step-returns t c =
     let s = context_of c.args.context.now in
     let k = path_of c.args.known.now in
     let es = arguments (map expr a.list.items) in
-    leads_by s k c.args.found.now.items _ (seen_of c.args.head) _ (λ (e : ExprTree). CallOf p e a.method a.ty es) (step_behind c.args.step.now p)
-    (λ e. ap (λ (l : TypedStep). step_behind l p e) a.is ∙ call_is a.method a.ty a.list p e)
+    leads_by s k c.args.found.now.items _ (seen_of c.args.head) _ (λ (e : ExprTree). CallOf p e a.method a.ty es) (step_after c.args.step.now p)
+    (λ e. ap (λ (l : TypedStep). step_after l p e) a.is ∙ call_is a.method a.ty a.list p e)
     (call_leads s k c.args.found.now.items _ (seen_of c.args.head) _ p a.method a.ty es _ c.called.ensures c.method_of-entered.ensures
     (c.in_ok-check_arguments-in-Call.ensures ∙ ap (λ (xs : List TypedExpr). c.args.found.now.items ++ handed s k (arguments (map expr xs)) (called_types c.method_of-entered.result)) c.deref.ensures.value))
 

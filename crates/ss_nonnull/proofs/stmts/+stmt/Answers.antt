@@ -11,7 +11,7 @@ use Rattle.ss_nonnull_seen.proofs.Seeing.{joined}
 use Rattle.ss_paths.specs.Sets.{among}
 use Rattle.ss_nonnull_seen.specs.Codes.{path_of, context_of, seen_of}
 use Rattle.ss_nonnull_seen.specs.Paths.{told, left_by}
-use Rattle.ss_nonnull.specs.Walks.{known_behind, known_behind_block, known_at_end, stmt_faults, block_faults}
+use Rattle.ss_nonnull.specs.Walks.{known_behind, known_after_block, known_at_end, stmt_faults, block_faults}
 use Rattle.ss_nonnull.proofs.Shapes.{if_shape, else_shape, while_shape, for_shape, expose_shape}
 use Rattle.ss_nonnull.proofs.Statements.{block_is, if_noted, else_noted, while_known, while_noted, for_known, for_noted, one_known, one_noted, all_known, all_noted}
 use Rattle.ss_nonnull.proofs.stmts.+stmt.Goals as goal
@@ -141,7 +141,7 @@ check_block-returns-clause-known t c =
     c.in_ok-behind.ensures.known
     ∙ ap (λ (xs : List TypedStmt). known_at_end s (stmt_trees (map stmt_of xs)) k) c.deref.ensures.value
     ∙ block_is s (out-TypedBlock b).place (out-TypedBlock b).end (stmt_trees (map stmt_of (out-TypedBlock b).statements.items)) k
-    ∙ ap (λ (x : BlockTree). known_behind_block s x k) (sym (fold_out-TypedBlock StmtTree BlockTree stmt_step block_step b))
+    ∙ ap (λ (x : BlockTree). known_after_block s x k) (sym (fold_out-TypedBlock StmtTree BlockTree stmt_step block_step b))
 
 pub check_all-loop-stmt-preserved : goal.check_all-loop-stmt-preserved
 check_all-loop-stmt-preserved t c =

@@ -14,8 +14,8 @@ find_in_steps-returns t c =
 pub find_reads-returns-in_ok-find_in_links-in-Chain-clause-reached : goal.find_reads-returns-in_ok-find_in_links-in-Chain-clause-reached
 find_reads-returns-in_ok-find_in_links-in-Chain-clause-reached t c =
     let a = c.in-Chain in
-    chain_reached c.args.marks.now a.field-0 a.first a.links c.args.e.now c.deref-in-Chain-3.result.now c.deref-in-Chain.result.now c.in_ok-head-in-Chain.head c.behind_links.result
-    a.is c.deref-in-Chain.ensures c.deref-in-Chain-3.ensures.value c.in_ok-head-in-Chain.ensures.reached c.behind_links.ensures
+    chain_reached c.args.marks.now a.field-0 a.first a.links c.args.e.now c.deref-in-Chain-3.result.now c.deref-in-Chain.result.now c.in_ok-head-in-Chain.head c.after_links.result
+    a.is c.deref-in-Chain.ensures c.deref-in-Chain-3.ensures.value c.in_ok-head-in-Chain.ensures.reached c.after_links.ensures
 
 pub find_reads-returns-in_ok-find_in_links-in-Chain-clause-noted : goal.find_reads-returns-in_ok-find_in_links-in-Chain-clause-noted
 find_reads-returns-in_ok-find_in_links-in-Chain-clause-noted t c =

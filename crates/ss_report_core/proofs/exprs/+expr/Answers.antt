@@ -2,7 +2,7 @@ use Rattle.std.proofs.Common.{◌≡◌, [], ◌∷◌, ◌++◌, length, ap, sy
 use Rattle.ss_core.specs.View as view
 use Rattle.ss_report_names.specs.Names.{local_names}
 use Rattle.ss_report_core.specs.Exprs.{expr_text}
-use Rattle.ss_report_core.specs.Behinds.{word_before, word_behind}
+use Rattle.ss_report_core.specs.Afters.{word_before, word_after}
 use Rattle.ss_report_names.specs.Tables.{texts}
 use Rattle.ss_report_names.specs.Contexts.{classes_of, names_in}
 use Rattle.ss_report_core.proofs.ExprTexts.{chain_done, path_done, quantified_done, state_done, owners_done}
@@ -51,7 +51,7 @@ push_state-returns t c =
     let cs = classes_of s.program.now in
     let before = word_before (view.word_tree c.args.word) in
     let asked = expr_text cs (names_in s) (view.expr c.args.e.now) in
-    let rest = word_behind cs (view.word_tree c.args.word) in
+    let rest = word_after cs (view.word_tree c.args.word) in
     three_written _ _ _ _ _ before asked rest _ (c.in_ok-extend_from_slice.ensures.items ∙ ap (λ t. c.args.out.now.items ++ t) c.word_before.ensures) c.in_ok-push_expr.ensures (append_assoc before asked rest) c.push_word.ensures
 
 pub push_member-returns : goal.push_member-returns

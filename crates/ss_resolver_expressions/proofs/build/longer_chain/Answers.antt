@@ -1,6 +1,6 @@
 use Rattle.std.proofs.Common.{◌≡◌, sym, ap, ◌∙◌, map, rules}
 use Rattle.ss_typed.specs.View.{expr, grouped}
-use Rattle.ss_typed.specs.Parts.{link_behind as typed_link}
+use Rattle.ss_typed.specs.Parts.{link_after as typed_link}
 use Rattle.ss_typed.proofs.Grouping.{chain_is, linked_push}
 use Rattle.ss_resolver_expressions.proofs.build.longer_chain.Goals as goal
 

@@ -1,6 +1,6 @@
 use Rattle.std.proofs.Common.{◌≡◌, sym, ap, ◌∙◌, map, rules}
 use Rattle.ss_typed.specs.View.{expr, grouped}
-use Rattle.ss_typed.specs.Parts.{step_behind as typed_step}
+use Rattle.ss_typed.specs.Parts.{step_after as typed_step}
 use Rattle.ss_typed.proofs.Grouping.{path_is, stepped_push}
 use Rattle.ss_resolver_expressions.proofs.build.longer_path.Goals as goal
 

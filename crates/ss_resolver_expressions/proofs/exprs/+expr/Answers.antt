@@ -7,7 +7,7 @@ use Rattle.ss_typed.specs.Tree as typed
 use Rattle.ss_typed.specs.View as view
 use Rattle.ss_resolver_rules.specs.Expressions.{expr, class_named_by}
 use Rattle.ss_resolver_expressions.specs.Environments.{AnOther, env_of, part, part_view, numbers_of}
-use Rattle.ss_ast.specs.Parts.{link_behind, postfix_behind}
+use Rattle.ss_ast.specs.Parts.{link_after, postfix_after}
 use Rattle.ss_resolver_expressions.proofs.Loops.{none_yet, one_more, drop_all}
 use Rattle.ss_ast.proofs.Falls.{links_fall, postfixes_fall}
 use Rattle.ss_resolver_expressions.proofs.Walked as walked
@@ -130,7 +130,7 @@ walk_links-loop-link-preserved t c =
     let l = c.loop-link in
     let b = c.in_ok-before in
     record {
-      part = walked.one_more_part link_behind c.args.context.now c.args.names.now l.names c.args.place c.args.links.now l.link-index c.link-item.result (part_view c.args.first) (part_view l.before) (part_view b.before)
+      part = walked.one_more_part link_after c.args.context.now c.args.names.now l.names c.args.place c.args.links.now l.link-index c.link-item.result (part_view c.args.first) (part_view l.before) (part_view b.before)
           l.invariant.kept c.loop-link-test.true c.link-item.is b.ensures.part l.invariant.part;
       kept = b.ensures.kept ∙ l.invariant.kept;
     }
@@ -139,7 +139,7 @@ pub walk_links-returns : goal.walk_links-returns
 walk_links-returns t c =
     let l = c.loop-link in
     record {
-      part = walked.all_parts link_behind c.args.context.now c.args.names.now c.args.place c.args.links.now l.link-index (part_view c.args.first) (part_view l.before) c.loop-link-test.false l.invariant.part;
+      part = walked.all_parts link_after c.args.context.now c.args.names.now c.args.place c.args.links.now l.link-index (part_view c.args.first) (part_view l.before) c.loop-link-test.false l.invariant.part;
       kept = l.invariant.kept;
     }
 
@@ -152,7 +152,7 @@ walk_postfixes-loop-postfix-preserved t c =
     let l = c.loop-postfix in
     let b = c.in_ok-before in
     record {
-      part = walked.one_more_part postfix_behind c.args.context.now c.args.names.now l.names c.args.place c.args.postfixes.now l.postfix-index c.postfix-item.result (part_view c.args.first) (part_view l.before) (part_view b.before)
+      part = walked.one_more_part postfix_after c.args.context.now c.args.names.now l.names c.args.place c.args.postfixes.now l.postfix-index c.postfix-item.result (part_view c.args.first) (part_view l.before) (part_view b.before)
           l.invariant.kept c.loop-postfix-test.true c.postfix-item.is b.ensures.part l.invariant.part;
       kept = b.ensures.kept ∙ l.invariant.kept;
     }
@@ -161,7 +161,7 @@ pub walk_postfixes-returns : goal.walk_postfixes-returns
 walk_postfixes-returns t c =
     let l = c.loop-postfix in
     record {
-      part = walked.all_parts postfix_behind c.args.context.now c.args.names.now c.args.place c.args.postfixes.now l.postfix-index (part_view c.args.first) (part_view l.before) c.loop-postfix-test.false l.invariant.part;
+      part = walked.all_parts postfix_after c.args.context.now c.args.names.now c.args.place c.args.postfixes.now l.postfix-index (part_view c.args.first) (part_view l.before) c.loop-postfix-test.false l.invariant.part;
       kept = l.invariant.kept;
     }
 

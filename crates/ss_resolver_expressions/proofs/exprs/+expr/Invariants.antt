@@ -4,20 +4,20 @@ use Rattle.ss_ast.specs.Expressions.{ExprTree, grouped, expr_tree}
 use Rattle.ss_typed.specs.View as view
 use Rattle.ss_resolver_rules.specs.Expressions.{expr, class_named_by}
 use Rattle.ss_resolver_expressions.specs.Environments.{env_of, part, part_view, numbers_of}
-use Rattle.ss_ast.specs.Parts.{link_behind, postfix_behind}
+use Rattle.ss_ast.specs.Parts.{link_after, postfix_after}
 use Rattle.ss_resolver_expressions.proofs.exprs.+expr.Given as goal
 
 abbrev pub invariant-walk_links-loop-link : goal.invariant-walk_links-loop-link
 invariant-walk_links-loop-link l = record {
   part : (t : ExprTree) → part_view l.fn.first ≡ part (env_of l.context l.fn.names) t
-      → part_view l.before ≡ part (env_of l.context l.fn.names) (grouped l.place t (map link_behind (take l.link-index l.links)));
+      → part_view l.before ≡ part (env_of l.context l.fn.names) (grouped l.place t (map link_after (take l.link-index l.links)));
   kept : l.names ≡ l.fn.names;
 }
 
 abbrev pub invariant-walk_postfixes-loop-postfix : goal.invariant-walk_postfixes-loop-postfix
 invariant-walk_postfixes-loop-postfix l = record {
   part : (t : ExprTree) → part_view l.fn.first ≡ part (env_of l.context l.fn.names) t
-      → part_view l.before ≡ part (env_of l.context l.fn.names) (grouped l.place t (map postfix_behind (take l.postfix-index l.postfixes)));
+      → part_view l.before ≡ part (env_of l.context l.fn.names) (grouped l.place t (map postfix_after (take l.postfix-index l.postfixes)));
   kept : l.names ≡ l.fn.names;
 }
 

@@ -4,25 +4,25 @@ use Rattle.ss_tables_scopes.specs.Views.{scope_of}
 use Rattle.ss_resolver_names_rules.specs.Faults.{Faults}
 use Rattle.ss_resolver_names_rules.specs.Expressions.{arguments_faults}
 use Rattle.ss_resolver_names_rules.specs.Prefixes.{prefix, settled}
-use Rattle.ss_ast.specs.Parts.{link_behind, postfix_behind}
+use Rattle.ss_ast.specs.Parts.{link_after, postfix_after}
 use Rattle.ss_resolver_scoping.specs.Views.{prefix_view}
 use Rattle.ss_resolver_names_members.proofs.walk.+expr.Given as goal
 
 abbrev pub invariant-walk_links-loop-link : goal.invariant-walk_links-loop-link
 invariant-walk_links-loop-link l = record {
   noted : (e : ExprTree) → (found : Faults) → l.fn.faults.items ≡ found ++ settled (scope_of l.context l.fn.locals) e → prefix_view l.fn.first ≡ prefix (scope_of l.context l.fn.locals) e
-      → l.faults.items ≡ found ++ settled (scope_of l.context l.fn.locals) (grouped l.place e (map link_behind (take l.link-index l.links)));
+      → l.faults.items ≡ found ++ settled (scope_of l.context l.fn.locals) (grouped l.place e (map link_after (take l.link-index l.links)));
   begun : (e : ExprTree) → prefix_view l.fn.first ≡ prefix (scope_of l.context l.fn.locals) e
-      → prefix_view l.before ≡ prefix (scope_of l.context l.fn.locals) (grouped l.place e (map link_behind (take l.link-index l.links)));
+      → prefix_view l.before ≡ prefix (scope_of l.context l.fn.locals) (grouped l.place e (map link_after (take l.link-index l.links)));
   kept : l.locals ≡ l.fn.locals;
 }
 
 abbrev pub invariant-walk_postfixes-loop-postfix : goal.invariant-walk_postfixes-loop-postfix
 invariant-walk_postfixes-loop-postfix l = record {
   noted : (e : ExprTree) → (found : Faults) → l.fn.faults.items ≡ found ++ settled (scope_of l.context l.fn.locals) e → prefix_view l.fn.first ≡ prefix (scope_of l.context l.fn.locals) e
-      → l.faults.items ≡ found ++ settled (scope_of l.context l.fn.locals) (grouped l.place e (map postfix_behind (take l.postfix-index l.postfixes)));
+      → l.faults.items ≡ found ++ settled (scope_of l.context l.fn.locals) (grouped l.place e (map postfix_after (take l.postfix-index l.postfixes)));
   begun : (e : ExprTree) → prefix_view l.fn.first ≡ prefix (scope_of l.context l.fn.locals) e
-      → prefix_view l.before ≡ prefix (scope_of l.context l.fn.locals) (grouped l.place e (map postfix_behind (take l.postfix-index l.postfixes)));
+      → prefix_view l.before ≡ prefix (scope_of l.context l.fn.locals) (grouped l.place e (map postfix_after (take l.postfix-index l.postfixes)));
   kept : l.locals ≡ l.fn.locals;
 }
 

@@ -4,7 +4,7 @@ use Rattle.ss_core.specs.declared.names.Place.{Place}
 use Rattle.ss_ast.specs.declared.expr.Expr.TheOpen as shape
 use Rattle.ss_ast.specs.declared.expr.Expr.TheOpen.{Link-F}
 use Rattle.ss_ast.specs.Expressions.{ExprTree, CallOf, Behind, grouped, arguments, expr_tree, link_step}
-use Rattle.ss_ast.specs.Parts.{postfix_behind}
+use Rattle.ss_ast.specs.Parts.{postfix_after}
 use Rattle.ss_ast.proofs.Grouping.{chain_is, path_last, chain_some}
 use Rattle.ss_resolver_statements.specs.Forms.{is_call}
 use Rattle.ss_resolver_statements.proofs.forms.+call_in.Goals as goal
@@ -27,8 +27,8 @@ returns-in-Some-clause-some t c =
     let parts = sym c.deref-in-Path.ensures.value ∙ x.ensures.some in
     let whole =
     ap expr_tree a.is ∙ path_last a.place a.first a.postfixes x.front.now x.last.now parts
-    ∙ ap (λ v. postfix_behind x.last.now a.place (grouped a.place (expr_tree v) (map postfix_behind x.front.now))) (sym c.deref-in-Some.ensures) in
-    subst (λ u. IfSome c.call_by_last.result (λ r. u ≡ CallOf r.place (grouped r.place (expr_tree r.first.now) (map postfix_behind r.front.now)) (arguments (map expr_tree r.written.now)))) (sym whole) c.call_by_last.ensures.some
+    ∙ ap (λ v. postfix_after x.last.now a.place (grouped a.place (expr_tree v) (map postfix_after x.front.now))) (sym c.deref-in-Some.ensures) in
+    subst (λ u. IfSome c.call_by_last.result (λ r. u ≡ CallOf r.place (grouped r.place (expr_tree r.first.now) (map postfix_after r.front.now)) (arguments (map expr_tree r.written.now)))) (sym whole) c.call_by_last.ensures.some
 
 pub returns-in-Some-clause-none : goal.returns-in-Some-clause-none
 returns-in-Some-clause-none t c =
@@ -37,5 +37,5 @@ returns-in-Some-clause-none t c =
     let parts = sym c.deref-in-Path.ensures.value ∙ x.ensures.some in
     let whole =
     ap expr_tree a.is ∙ path_last a.place a.first a.postfixes x.front.now x.last.now parts
-    ∙ ap (λ v. postfix_behind x.last.now a.place (grouped a.place (expr_tree v) (map postfix_behind x.front.now))) (sym c.deref-in-Some.ensures) in
+    ∙ ap (λ v. postfix_after x.last.now a.place (grouped a.place (expr_tree v) (map postfix_after x.front.now))) (sym c.deref-in-Some.ensures) in
     subst (λ u. IfNone c.call_by_last.result (is_call u ≡ false)) (sym whole) c.call_by_last.ensures.none

@@ -1,6 +1,6 @@
 use Rattle.std.proofs.Common.{map, sym, ap, ◌∙◌}
 use Rattle.ss_ast.specs.Expressions.{expr_tree, grouped, arguments}
-use Rattle.ss_ast.specs.Parts.{postfix_behind}
+use Rattle.ss_ast.specs.Parts.{postfix_after}
 use Rattle.ss_resolver_expressions.specs.Environments.{env_of, part, part_view}
 use Rattle.ss_resolver_statements.specs.Alone.{part_alone}
 use Rattle.ss_resolver_statements.proofs.simples.resolve_path_call.Goals as goal
@@ -12,7 +12,7 @@ returns-clause-tree c =
     let at = c.args.place in
     let es = arguments (map expr_tree c.args.written.now) in
     let first = expr_tree c.args.first.now in
-    let path = grouped at first (map postfix_behind c.args.front.now) in
+    let path = grouped at first (map postfix_after c.args.front.now) in
     let k = c.in_ok-first.ensures.kept in
     let before = part_view c.in_ok-before.before in
     c.in_ok-whole.ensures.tree

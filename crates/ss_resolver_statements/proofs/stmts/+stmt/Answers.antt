@@ -2,7 +2,7 @@ use Rattle.std.proofs.Common.{map, refl, ◌∙◌}
 use Rattle.ss_ast.specs.Expressions.{expr_tree}
 use Rattle.ss_ast.specs.Statements.{stmt_tree, for_init_tree, simple_tree}
 use Rattle.std.specs.Prelude.{option_map}
-use Rattle.ss_resolver_statements.proofs.Blocks.{block_whole, block_behind}
+use Rattle.ss_resolver_statements.proofs.Blocks.{block_whole, block_after}
 use Rattle.ss_resolver_statements.proofs.Left.{governed_left, for_left}
 use Rattle.ss_resolver_statements.proofs.Governed.{if_is, while_is, for_is}
 use Rattle.ss_resolver_statements.proofs.stmts.+stmt.Goals as goal
@@ -13,7 +13,7 @@ resolve_block-returns-clause-tree t c =
 
 pub resolve_block-returns-clause-behind : goal.resolve_block-returns-clause-behind
 resolve_block-returns-clause-behind t c =
-    block_behind c.args.context.now c.args.names.now _ _ _ c.args.block.now c.deref.result.now c.in_ok-enter.ensures c.deref.ensures.value c.in_ok-statements.ensures.behind c.leave.ensures
+    block_after c.args.context.now c.args.names.now _ _ _ c.args.block.now c.deref.result.now c.in_ok-enter.ensures c.deref.ensures.value c.in_ok-statements.ensures.behind c.leave.ensures
 
 pub resolve_governed-returns-clause-behind : goal.resolve_governed-returns-clause-behind
 resolve_governed-returns-clause-behind t c =

@@ -5,7 +5,7 @@ use Rattle.ss_tables_lookup.specs.Classes.{trees}
 use Rattle.ss_tables_lookup.specs.Views.{type_of}
 use Rattle.ss_tables_scopes.specs.Names.{Names}
 use Rattle.ss_resolver_types_heads.specs.declared.heads.Form.TheVariants as form
-use Rattle.ss_ast.specs.Parts.{link_behind, postfix_behind}
+use Rattle.ss_ast.specs.Parts.{link_after, postfix_after}
 use Rattle.ss_tables.specs.Types.{class_of, element_type}
 use Rattle.ss_resolver_types_heads.specs.Wants.{Known}
 use Rattle.ss_resolver_types_heads.specs.Calls.{wants_of}
@@ -59,36 +59,36 @@ check-returns-clause-noted t c =
     noted_read c.args.context.now c.args.locals.now _ _ (expr_tree c.args.e.now) c.args.found.now.items _ _ c.in_ok-head.ensures.same c.in_ok-head.ensures.head c.in_ok-head.ensures.noted c.in_ok-known.ensures.noted
 
 pub walk_links-loop-link-init : goal.walk_links-loop-link-init
-walk_links-loop-link-init t c = record { same = search rules; walked = no_parts link_behind _ _ _ c.args.place c.args.links.now }
+walk_links-loop-link-init t c = record { same = search rules; walked = no_parts link_after _ _ _ c.args.place c.args.links.now }
 
 pub walk_links-loop-link-preserved : goal.walk_links-loop-link-preserved
 walk_links-loop-link-preserved t c = record {
   same = c.in_ok-head.ensures.same ∙ c.loop-link.invariant.same;
   walked =
-      part_leads link_behind c.args.context.now c.args.locals.now c.loop-link.locals c.args.found.now.items _ _ (head_of c.args.first) _ _ c.args.place c.args.links.now c.loop-link.link-index c.link-item.result
+      part_leads link_after c.args.context.now c.args.locals.now c.loop-link.locals c.args.found.now.items _ _ (head_of c.args.first) _ _ c.args.place c.args.links.now c.loop-link.link-index c.link-item.result
       c.loop-link.invariant.same c.loop-link-test.true c.link-item.is c.in_ok-head.ensures.walked c.loop-link.invariant.walked;
 }
 
 pub walk_links-returns : goal.walk_links-returns
 walk_links-returns t c = record {
-  walked = parts_led link_behind _ c.args.found.now.items _ (head_of c.args.first) _ c.args.place c.args.links.now c.loop-link.link-index c.loop-link-test.false c.loop-link.invariant.walked;
+  walked = parts_led link_after _ c.args.found.now.items _ (head_of c.args.first) _ c.args.place c.args.links.now c.loop-link.link-index c.loop-link-test.false c.loop-link.invariant.walked;
   same = c.loop-link.invariant.same;
 }
 
 pub walk_postfixes-loop-postfix-init : goal.walk_postfixes-loop-postfix-init
-walk_postfixes-loop-postfix-init t c = record { same = search rules; walked = no_parts postfix_behind _ _ _ c.args.place c.args.postfixes.now }
+walk_postfixes-loop-postfix-init t c = record { same = search rules; walked = no_parts postfix_after _ _ _ c.args.place c.args.postfixes.now }
 
 pub walk_postfixes-loop-postfix-preserved : goal.walk_postfixes-loop-postfix-preserved
 walk_postfixes-loop-postfix-preserved t c = record {
   same = c.in_ok-head.ensures.same ∙ c.loop-postfix.invariant.same;
   walked =
-      part_leads postfix_behind c.args.context.now c.args.locals.now c.loop-postfix.locals c.args.found.now.items _ _ (head_of c.args.first) _ _ c.args.place c.args.postfixes.now c.loop-postfix.postfix-index c.postfix-item.result
+      part_leads postfix_after c.args.context.now c.args.locals.now c.loop-postfix.locals c.args.found.now.items _ _ (head_of c.args.first) _ _ c.args.place c.args.postfixes.now c.loop-postfix.postfix-index c.postfix-item.result
       c.loop-postfix.invariant.same c.loop-postfix-test.true c.postfix-item.is c.in_ok-head.ensures.walked c.loop-postfix.invariant.walked;
 }
 
 pub walk_postfixes-returns : goal.walk_postfixes-returns
 walk_postfixes-returns t c = record {
-  walked = parts_led postfix_behind _ c.args.found.now.items _ (head_of c.args.first) _ c.args.place c.args.postfixes.now c.loop-postfix.postfix-index c.loop-postfix-test.false c.loop-postfix.invariant.walked;
+  walked = parts_led postfix_after _ c.args.found.now.items _ (head_of c.args.first) _ c.args.place c.args.postfixes.now c.loop-postfix.postfix-index c.loop-postfix-test.false c.loop-postfix.invariant.walked;
   same = c.loop-postfix.invariant.same;
 }
 

@@ -3,7 +3,7 @@ use Rattle.std.proofs.lemmas.Result.{err_from_is_err_and}
 use Rattle.ss_core.specs.View.{expr}
 use Rattle.ss_store_rules.specs.Values.{value_of, joined}
 use Rattle.ss_store.specs.Contexts.{setting_of}
-use Rattle.ss_store.specs.Grouped.{link_behind, step_behind}
+use Rattle.ss_store.specs.Grouped.{link_after, step_after}
 use Rattle.ss_store.proofs.Groups.{chain_strict, path_strict, map_drop, leads_on, link_ends, step_ends, leads_home}
 use Rattle.ss_store.proofs.Members.{member_of, gap_above, no_gap, next_is, next_member, failed_member, last_member, bounds_are}
 use mir.Syntax.{w32}
@@ -41,8 +41,8 @@ eval_links-returns-in_err-value g t c =
     let all = c.args.links.now in
     let x = c.link-item.result in
     rw (p.1, p.2)
-    (link_ends s c.args.place v c.in_err-value.field-0.0 (link_behind x) (map link_behind (drop i all)) (drop (i + 1) all) c.args.first (map link_behind all)
-    (map_drop link_behind all i x c.loop-link-test.true c.link-item.is)
+    (link_ends s c.args.place v c.in_err-value.field-0.0 (link_after x) (map link_after (drop i all)) (drop (i + 1) all) c.args.first (map link_after all)
+    (map_drop link_after all i x c.loop-link-test.true c.link-item.is)
     (λ e h. sym c.in_err-value.was ∙ c.eval_link.ensures e h)
     c.loop-link.invariant)
 
@@ -52,15 +52,15 @@ eval_links-loop-link-preserved g t c =
     let i = c.loop-link.link-index in
     let all = c.args.links.now in
     let x = c.link-item.result in
-    leads_on s c.args.place c.loop-link.value c.in_ok-value.value (link_behind x) (map link_behind (drop i all)) (map link_behind (drop (i + 1) all)) c.args.first (map link_behind all)
-    (map_drop link_behind all i x c.loop-link-test.true c.link-item.is)
+    leads_on s c.args.place c.loop-link.value c.in_ok-value.value (link_after x) (map link_after (drop i all)) (map link_after (drop (i + 1) all)) c.args.first (map link_after all)
+    (map_drop link_after all i x c.loop-link-test.true c.link-item.is)
     (λ e h. sym c.in_ok-value.was ∙ c.eval_link.ensures e h)
     c.loop-link.invariant
 
 pub eval_links-returns : goal.eval_links-returns
 eval_links-returns g t c =
-    leads_home link_behind c.args.links.now c.loop-link.link-index (setting_of g.B.Before.told c.args.context.now) c.args.place c.loop-link.value c.args.first
-    (map link_behind c.args.links.now) c.loop-link-test.false c.loop-link.invariant
+    leads_home link_after c.args.links.now c.loop-link.link-index (setting_of g.B.Before.told c.args.context.now) c.args.place c.loop-link.value c.args.first
+    (map link_after c.args.links.now) c.loop-link-test.false c.loop-link.invariant
 
 pub eval_steps-returns-in_err-value : goal.eval_steps-returns-in_err-value
 eval_steps-returns-in_err-value g t c =
@@ -71,8 +71,8 @@ eval_steps-returns-in_err-value g t c =
     let all = c.args.steps.now in
     let x = c.step-item.result in
     rw (p.1, p.2)
-    (step_ends s c.args.place v c.in_err-value.field-0.0 (step_behind x) (map step_behind (drop i all)) (drop (i + 1) all) c.args.first (map step_behind all)
-    (map_drop step_behind all i x c.loop-step-test.true c.step-item.is)
+    (step_ends s c.args.place v c.in_err-value.field-0.0 (step_after x) (map step_after (drop i all)) (drop (i + 1) all) c.args.first (map step_after all)
+    (map_drop step_after all i x c.loop-step-test.true c.step-item.is)
     (λ e h. sym c.in_err-value.was ∙ c.eval_step.ensures e h)
     c.loop-step.invariant)
 
@@ -82,15 +82,15 @@ eval_steps-loop-step-preserved g t c =
     let i = c.loop-step.step-index in
     let all = c.args.steps.now in
     let x = c.step-item.result in
-    leads_on s c.args.place c.loop-step.value c.in_ok-value.value (step_behind x) (map step_behind (drop i all)) (map step_behind (drop (i + 1) all)) c.args.first (map step_behind all)
-    (map_drop step_behind all i x c.loop-step-test.true c.step-item.is)
+    leads_on s c.args.place c.loop-step.value c.in_ok-value.value (step_after x) (map step_after (drop i all)) (map step_after (drop (i + 1) all)) c.args.first (map step_after all)
+    (map_drop step_after all i x c.loop-step-test.true c.step-item.is)
     (λ e h. sym c.in_ok-value.was ∙ c.eval_step.ensures e h)
     c.loop-step.invariant
 
 pub eval_steps-returns : goal.eval_steps-returns
 eval_steps-returns g t c =
-    leads_home step_behind c.args.steps.now c.loop-step.step-index (setting_of g.B.Before.told c.args.context.now) c.args.place c.loop-step.value c.args.first
-    (map step_behind c.args.steps.now) c.loop-step-test.false c.loop-step.invariant
+    leads_home step_after c.args.steps.now c.loop-step.step-index (setting_of g.B.Before.told c.args.context.now) c.args.place c.loop-step.value c.args.first
+    (map step_after c.args.steps.now) c.loop-step-test.false c.loop-step.invariant
 
 pub eval_members-returns-in_err-value : goal.eval_members-returns-in_err-value
 eval_members-returns-in_err-value g t c =

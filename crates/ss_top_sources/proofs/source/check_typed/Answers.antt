@@ -1,6 +1,6 @@
 use Rattle.ss_ast.specs.Programs.{program_tree}
 use Rattle.ss_typed.specs.View.{typed}
-use Rattle.ss_top_sources.proofs.Readings.{behind_resolve, phases_give}
+use Rattle.ss_top_sources.proofs.Readings.{after_resolve, phases_give}
 use Rattle.ss_top_sources.proofs.source.check_typed.Goals as goal
 
 pub returns-in-Ok : goal.returns-in-Ok
@@ -8,7 +8,7 @@ returns-in-Ok c = record {
   tree = program_tree c.args.tree.now;
   reads = c.requires.reads;
   parses = c.requires.parses;
-  faultless = behind_resolve (program_tree c.args.tree.now) (typed c.args.program) c.requires.resolves c.in-Ok.ensures;
+  faultless = after_resolve (program_tree c.args.tree.now) (typed c.args.program) c.requires.resolves c.in-Ok.ensures;
   resolves = c.requires.resolves.1;
 }
 

@@ -186,8 +186,8 @@ behind-returns-in-PrintText t c =
     let is = ap stmt_of a.is ∙ print_text_is a.field-0 a.field-1 a.field-2 in
     so s s (λ (b : Forms). position_at b s) (λ b. behind (walk_at b c.args.walk.now) (stmt_of c.args.stmt.now) (position_at b s)) (λ b k. sym (ap (λ (st : StmtTree). behind (walk_at b c.args.walk.now) st (position_at b s)) is)) (stays s c.requires.fine)
 
-pub behind-behind_loop-requires : goal.behind-behind_loop-requires
-behind-behind_loop-requires t c = (search (rules, the_lemmas), assumption (c.in_ok-enter_loop-in-Loop.ensures.fine, IsWalk-grown c.args.builder.now.bank c.enter_loop.new.builder.bank c.in_ok-enter_loop-in-Loop.ensures.grown c.args.walk.now c.requires.walk))
+pub behind-after_loop-requires : goal.behind-after_loop-requires
+behind-after_loop-requires t c = (search (rules, the_lemmas), assumption (c.in_ok-enter_loop-in-Loop.ensures.fine, IsWalk-grown c.args.builder.now.bank c.enter_loop.new.builder.bank c.in_ok-enter_loop-in-Loop.ensures.grown c.args.walk.now c.requires.walk))
 
 pub behind-returns-in_ok-enter_loop-in-Loop : goal.behind-returns-in_ok-enter_loop-in-Loop
 behind-returns-in_ok-enter_loop-in-Loop t c =
@@ -204,13 +204,13 @@ behind-returns-in_ok-enter_loop-in-Loop t c =
     let es = c.deref-in-Loop.result.now in
     let xs = c.deref-in-Loop-2.result.now in
     let F1 = λ (b : Forms). head_reached (w b) T (exprs es) (map exposed_tree xs) (head_checked (w b) at (exprs es) (map exposed_tree xs) (P b)) in
-    arm c.behind_loop.result s c.behind_loop.new.builder (λ b. round b (F1 b)) (λ b. behind (w b) T (P b))
+    arm c.after_loop.result s c.after_loop.new.builder (λ b. round b (F1 b)) (λ b. behind (w b) T (P b))
     (λ b.
     ap (λ (es : List Expr). round b (head_reached (w b) T (exprs es) (map exposed_tree xs) (head_checked (w b) at (exprs es) (map exposed_tree xs) (P b)))) c.deref-in-Loop.ensures.value
     ∙ ap (λ (xs : List Exposed). round b (head_reached (w b) T asked (map exposed_tree xs) (head_checked (w b) at asked (map exposed_tree xs) (P b)))) c.deref-in-Loop-2.ensures.value
     ∙ ap (λ (st : StmtTree). round b (head_reached (w b) st asked exposes (head_checked (w b) at asked exposes (P b)))) is
     ∙ sym (ap (λ (st : StmtTree). behind (w b) st (P b)) is))
-    (on_ok c.behind_loop.result (then s c.enter_loop.new.builder c.behind_loop.new.builder F1 round c.in_ok-enter_loop-in-Loop.ensures) c.behind_loop.ensures)
+    (on_ok c.after_loop.result (then s c.enter_loop.new.builder c.after_loop.new.builder F1 round c.in_ok-enter_loop-in-Loop.ensures) c.after_loop.ensures)
 
 pub behind-behind_all-requires : goal.behind-behind_all-requires
 behind-behind_all-requires t c =
@@ -289,12 +289,12 @@ behind-returns-in_ok-behind_all-in-If-2 t c =
     (then s t4 t5 F4 (λ b k. join (w b) known_met (at_spot b first k) k) p4 q))
     c.join.ensures
 
-pub behind_loop-go_if_reached-requires : goal.behind_loop-go_if_reached-requires
-behind_loop-go_if_reached-requires t c =
+pub after_loop-go_if_reached-requires : goal.after_loop-go_if_reached-requires
+after_loop-go_if_reached-requires t c =
     (search (rules, the_lemmas), assumption (c.in_ok-behind_all.ensures.fine, IsWalk-grown c.args.builder.now.bank c.behind_all.new.builder.bank c.in_ok-behind_all.ensures.grown c.args.walk.now c.requires.walk))
 
-pub behind_loop-returns : goal.behind_loop-returns
-behind_loop-returns t c =
+pub after_loop-returns : goal.after_loop-returns
+after_loop-returns t c =
     let s = c.args.builder.now in
     let w = λ (b : Forms). walk_at b c.args.walk.now in
     let l = out-Loop c.args.l.now in
@@ -305,8 +305,8 @@ behind_loop-returns t c =
     (λ b k. ap (λ (ss : List Stmt). round b (behind_all (w b) (block ss) (F0 b))) c.deref.ensures.value)
     (then s c.behind_all.new.builder c.go_if_reached.new.builder (λ b. behind_all (w b) (block code) (F0 b)) round c.in_ok-behind_all.ensures c.in_ok-go_if_reached.ensures)
 
-pub behind_loop-behind_all-requires : goal.behind_loop-behind_all-requires
-behind_loop-behind_all-requires t c = (search (rules, the_lemmas), assumption (c.requires.fine, c.requires.walk))
+pub after_loop-behind_all-requires : goal.after_loop-behind_all-requires
+after_loop-behind_all-requires t c = (search (rules, the_lemmas), assumption (c.requires.fine, c.requires.walk))
 
 pub go_if_reached-returns-then-is_never : goal.go_if_reached-returns-then-is_never
 go_if_reached-returns-then-is_never t c =

@@ -8,7 +8,7 @@ use Rattle.ss_vcgen_heaps.specs.Contracts as heaps
 use Rattle.ss_vcgen_contracts.specs.Names.{names_context}
 use Rattle.ss_vcgen_contracts.specs.Views.{contract_of, ones_at}
 use Rattle.ss_vcgen_contracts.proofs.Framing.{frame_is}
-use Rattle.ss_vcgen_contracts.proofs.Owning.{captured_of_body, has_captured_behind, owned_at, has_owned}
+use Rattle.ss_vcgen_contracts.proofs.Owning.{captured_of_body, has_captured_after, owned_at, has_owned}
 use Rattle.ss_vcgen_contracts.proofs.changes.frame_terms.Goals as goal
 
 pub returns-clause-at : goal.returns-clause-at
@@ -26,7 +26,7 @@ returns-clause-at c =
         before = HasTerm-grown a d g c.args.run.before c.requires.before;
         after = HasTerm-grown a d g c.args.run.after c.requires.after;
         named = c.in_ok-found.ensures.names.has;
-        captured = subst (HasTerms d) (sym c.in_ok-captured.ensures) (has_captured_behind d n body.params ts (HasTerms-grown a d g ts c.requires.arguments));
+        captured = subst (HasTerms d) (sym c.in_ok-captured.ensures) (has_captured_after d n body.params ts (HasTerms-grown a d g ts c.requires.arguments));
         owned = subst (HasOwned d) (sym c.in_ok-owned.ensures) (has_owned d cs body object c.in_ok-found.ensures.object.has);
         outside = subst (HasTerms d) (sym c.in_ok-outside.ensures.items) (HasTerms-grown a d g c.args.outside.now c.requires.outside);
       };

@@ -1,5 +1,5 @@
-use Rattle.ss_vcgen_safe.proofs.BehindChanges.{new_behind}
+use Rattle.ss_vcgen_safe.proofs.AfterChanges.{new_after}
 use Rattle.ss_vcgen_safe.proofs.changes_laws.the_term_has_a_new_object.Goals as goal
 
 pub returns : goal.returns
-returns c = new_behind
+returns c = new_after

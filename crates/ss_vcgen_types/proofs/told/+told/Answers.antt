@@ -1,9 +1,9 @@
 use Rattle.std.proofs.Common.{[], ◌++◌, take, sym, ap, ◌∙◌}
 use Rattle.ss_core.specs.View.{expr}
-use Rattle.ss_core.specs.Parts.{link_behind, chain_front}
+use Rattle.ss_core.specs.Parts.{link_after, chain_front}
 use Rattle.ss_vcgen_types.specs.Told.{local_of, told_by}
 use Rattle.ss_vcgen_types.proofs.Grouping.{path_is, path_some, front_next, front_whole}
-use Rattle.ss_vcgen_types.proofs.Telling.{step_tells, append_none, tell_next, no_local_behind}
+use Rattle.ss_vcgen_types.proofs.Telling.{step_tells, append_none, tell_next, no_local_after}
 use Rattle.ss_vcgen_types.proofs.told.+told.Goals as goal
 
 pub tell-returns-else-is_empty : goal.tell-returns-else-is_empty
@@ -24,11 +24,11 @@ tell_links-loop-link-preserved t c = λ p e before m l h.
     let v = c.args.outcome in
     let front = chain_front p e (take i all) in
     let next = front_next p e all i x c.loop-link-test.true c.link-item.is in (
-      tell_next before c.loop-link.found.items c.tell_link.new.found.items (told_by front v) (told_by (link_behind x p front) v) c.args.mark m
+      tell_next before c.loop-link.found.items c.tell_link.new.found.items (told_by front v) (told_by (link_after x p front) v) c.args.mark m
           (c.loop-link.invariant p e before m l h).0
           (c.in_ok-tell_link.ensures p front (c.loop-link.invariant p e before m l h).1)
           ∙ ap (λ e. before ++ told_by e v) (sym next),
-      sym (ap local_of next ∙ no_local_behind x p front),
+      sym (ap local_of next ∙ no_local_after x p front),
     )
 
 pub tell_links-returns : goal.tell_links-returns

@@ -9,7 +9,7 @@ use Rattle.ss_core.specs.declared.expr.Expr.{the_lemmas}
 use Rattle.ss_core.specs.Tree.{IntExpr, BoolExpr, NullExpr, LocalExpr, DefaultExpr, NegateExpr, NotExpr, ImpliesExpr, IffExpr, CastExpr, OldExpr, QuantifiedExpr, StateExpr, OwnersExpr, BinaryExpr, IsExpr, AsExpr, FieldExpr, ElementExpr, LengthExpr}
 use Rattle.ss_core.specs.View.{expr, classes, default_tree, owners_tree, word_tree}
 use Rattle.ss_core.specs.Tree.{ExprTree}
-use Rattle.ss_core.specs.Parts.{chain_front, path_front, link_behind, step_behind}
+use Rattle.ss_core.specs.Parts.{chain_front, path_front, link_after, step_after}
 use Rattle.ss_store_rules.specs.NonNull.{Known}
 use Rattle.ss_store_rules.specs.Types.{type_of, is_bool, element_of}
 use Rattle.ss_logic.specs.Express as spec
@@ -30,9 +30,9 @@ use Rattle.ss_vcgen_walk.specs.Forms.{two_asks}
 use Rattle.ss_vcgen_walk.specs.Parts.{parts_at, HasParts}
 use Rattle.ss_vcgen_walk.specs.Reading.{Expressed}
 use Rattle.ss_vcgen_walk.specs.NullContexts.{type_context_at, known_at, Reads}
-use Rattle.ss_vcgen_walk.proofs.Composing.{single_behind, second_behind, fresh}
+use Rattle.ss_vcgen_walk.proofs.Composing.{single_after, second_after, fresh}
 use Rattle.ss_vcgen_walk.proofs.Growing.{HasParts-grown}
-use Rattle.ss_vcgen_walk.proofs.Readings.{reads_as, reads_alone, reads_old, reads_member, two_behind, reads_cast, quantified_behind, reads_quantified, reads_state, reads_owners, reads_operation, reads_is, reads_as_class, reads_field, reads_length, reads_element, reads_tree, may_be_null}
+use Rattle.ss_vcgen_walk.proofs.Readings.{reads_as, reads_alone, reads_old, reads_member, two_after, reads_cast, quantified_after, reads_quantified, reads_state, reads_owners, reads_operation, reads_is, reads_as_class, reads_field, reads_length, reads_element, reads_tree, may_be_null}
 use Rattle.ss_vcgen_walk.proofs.Chains.{chain_so, path_so}
 use Rattle.ss_vcgen_walk.proofs.Trees.{int_is, bool_is, null_is, local_is, default_is, iff_so, implies_so, owners_so, negate_so, not_so, cast_so, old_so, state_so, quantified_so}
 use Rattle.ss_vcgen_walk.proofs.walk.+express.Goals as goal
@@ -40,7 +40,7 @@ use Rattle.ss_vcgen_walk.proofs.walk.+express.Goals as goal
 pub one-returns-clause-expressed : goal.one-returns-clause-expressed
 one-returns-clause-expressed t c =
     let a = c.args in
-    single_behind c.of_single.result a.form a.context.now.expression.now c.express.new.bank c.of_single.new.bank c.in_ok-m.m c.express.new.parts.items c.of_single.new.parts.items a.parts.now.items
+    single_after c.of_single.result a.form a.context.now.expression.now c.express.new.bank c.of_single.new.bank c.in_ok-m.m c.express.new.parts.items c.of_single.new.parts.items a.parts.now.items
     (λ (b : Forms). spec.meant (expr a.e.now) (context_at b a.context.now.expression.now)) (λ (b : Forms). marked (expr a.e.now) (type_context_at a.context.now.nulls.now) (known_at a.context.now.nulls.now) (context_at b a.context.now.expression.now))
     c.of_single.ensures.grown c.in_ok-m.ensures.expressed c.of_single.ensures.expressed
 
@@ -49,7 +49,7 @@ behind-returns-clause-expressed t c =
     let a = c.args in
     let says = λ (b : Forms). spec.meant (expr a.e.now) (context_at b a.context.now.expression.now) in
     let say = λ (b : Forms). marked (expr a.e.now) (type_context_at a.context.now.nulls.now) (known_at a.context.now.nulls.now) (context_at b a.context.now.expression.now) in
-    second_behind c.of_two.result a.form a.context.now.expression.now c.express.new.bank c.of_two.new.bank a.m c.in_ok-n.n a.parts.now.items c.of_two.new.parts.items c.deref.result.now says say c.of_two.ensures.grown
+    second_after c.of_two.result a.form a.context.now.expression.now c.express.new.bank c.of_two.new.bank a.m c.in_ok-n.n a.parts.now.items c.of_two.new.parts.items c.deref.result.now says say c.of_two.ensures.grown
     (subst (λ (l : List Part). Expressed c.express.new.bank c.in_ok-n.n l says say) (sym c.deref.ensures.value) (fresh c.express.new.bank c.in_ok-n.n c.express.new.parts.items c.new-list.result.items says say c.new-list.ensures.items c.in_ok-n.ensures.expressed))
     c.of_two.ensures.expressed
 
@@ -118,7 +118,7 @@ express-returns-in_ok-m-in-Iff-clause-expressed t c =
     let y = expr c.deref-in-Iff.result.now in
     reads_as c.behind.result c.behind.new.bank c.behind.new.parts.items c.args.parts.now.items s sc (IffExpr c.in-Iff.field-0 x y) (expr c.args.e.now)
     (iff_so c.args.e.now c.in-Iff.field-0 c.in-Iff.a c.in-Iff.b c.deref.result.now c.deref-in-Iff.result.now c.in-Iff.is c.deref.ensures c.deref-in-Iff.ensures)
-    (two_behind c.behind.result s sc c.express.new.bank c.behind.new.bank c.in_ok-m-in-Iff.m c.express.new.parts.items c.behind.new.parts.items c.args.parts.now.items x c.behind.ensures.grown c.in_ok-m-in-Iff.ensures.expressed
+    (two_after c.behind.result s sc c.express.new.bank c.behind.new.bank c.in_ok-m-in-Iff.m c.express.new.parts.items c.behind.new.parts.items c.args.parts.now.items x c.behind.ensures.grown c.in_ok-m-in-Iff.ensures.expressed
     two.Iff y (known_at s) c.behind.ensures.expressed)
 
 pub express-returns-in_ok-m-in-Implies-clause-expressed : goal.express-returns-in_ok-m-in-Implies-clause-expressed
@@ -129,7 +129,7 @@ express-returns-in_ok-m-in-Implies-clause-expressed t c =
     let y = expr c.deref-in-Implies-2.result.now in
     reads_as c.behind-in-Implies.result c.behind-in-Implies.new.bank c.behind-in-Implies.new.parts.items c.args.parts.now.items s sc (ImpliesExpr c.in-Implies.field-0 x y) (expr c.args.e.now)
     (implies_so c.args.e.now c.in-Implies.field-0 c.in-Implies.a c.in-Implies.b c.deref-in-Implies.result.now c.deref-in-Implies-2.result.now c.in-Implies.is c.deref-in-Implies.ensures c.deref-in-Implies-2.ensures)
-    (two_behind c.behind-in-Implies.result s sc c.express-in-Implies.new.bank c.behind-in-Implies.new.bank c.in_ok-m-in-Implies.m c.express-in-Implies.new.parts.items c.behind-in-Implies.new.parts.items c.args.parts.now.items x c.behind-in-Implies.ensures.grown c.in_ok-m-in-Implies.ensures.expressed
+    (two_after c.behind-in-Implies.result s sc c.express-in-Implies.new.bank c.behind-in-Implies.new.bank c.in_ok-m-in-Implies.m c.express-in-Implies.new.parts.items c.behind-in-Implies.new.parts.items c.args.parts.now.items x c.behind-in-Implies.ensures.grown c.in_ok-m-in-Implies.ensures.expressed
     two.Implies y (known_at s) c.behind-in-Implies.ensures.expressed)
 
 pub cast-returns-clause-expressed : goal.cast-returns-clause-expressed
@@ -144,7 +144,7 @@ quantifier_of-returns-clause-expressed t c =
     let says = λ (b : Forms). spec.meant (expr a.e.now) (spec.with_bound (context_at b a.context.now.expression.now)) in
     let say = λ (b : Forms). marked (expr a.e.now) (type_context_at a.context.now.nulls.now) (known_at a.context.now.nulls.now) (spec.with_bound (context_at b a.context.now.expression.now)) in
     let range = λ (b : Forms). spec.out_of_range (context_at b a.context.now.expression.now) (meant_at b a.bounds.low.now) (meant_at b a.bounds.high.now) in
-    quantified_behind c.of_member.result a.quantifier a.context.now.expression.now c.out_of_range.new.bank c.member.new.bank c.of_member.new.bank c.deref-2.result.now a.bounds.low.now a.bounds.high.now c.in_ok-m.m a.parts.now.items c.of_member.new.parts.items c.deref.result.now
+    quantified_after c.of_member.result a.quantifier a.context.now.expression.now c.out_of_range.new.bank c.member.new.bank c.of_member.new.bank c.deref-2.result.now a.bounds.low.now a.bounds.high.now c.in_ok-m.m a.parts.now.items c.of_member.new.parts.items c.deref.result.now
     says say c.member.ensures.grown c.of_member.ensures.grown
     (subst (λ (l : List FormulaId). AreFormulas c.out_of_range.new.bank l range) (sym c.deref-2.ensures.value) c.in_ok-out.ensures.at)
     (subst (λ (l : List Part). Expressed c.member.new.bank c.in_ok-m.m l says say) (sym c.deref.ensures.value) (fresh c.member.new.bank c.in_ok-m.m c.member.new.parts.items c.new-list.result.items says say c.new-list.ensures.items c.in_ok-m.ensures.expressed))
@@ -195,8 +195,8 @@ linked-returns-in-Operation-clause-expressed t c = λ q front h told typed.
     let s = a.context.now.nulls.now in
     let sc = a.context.now.expression.now in
     let v = c.in-Operation in
-    reads_as c.operation.result c.operation.new.bank c.operation.new.parts.items q s sc (BinaryExpr a.front.place v.operator front (expr v.e)) (link_behind a.link.now a.front.place front)
-    (sym (ap (λ l. link_behind l a.front.place front) v.is ∙ operation_is v.operator v.e a.front.place front))
+    reads_as c.operation.result c.operation.new.bank c.operation.new.parts.items q s sc (BinaryExpr a.front.place v.operator front (expr v.e)) (link_after a.link.now a.front.place front)
+    (sym (ap (λ l. link_after l a.front.place front) v.is ∙ operation_is v.operator v.e a.front.place front))
     (reads_operation c.operation.result s sc a.bank.now c.operation.new.bank a.m a.parts.now.items c.operation.new.parts.items q front c.operation.ensures.grown h v.operator a.front.place (expr v.e) c.is_bool.result
     (c.is_bool.ensures ∙ ap is_bool typed) (c.operation.ensures.expressed front told))
 
@@ -206,8 +206,8 @@ linked-returns-in-Is-clause-expressed t c = λ q front h told typed.
     let s = a.context.now.nulls.now in
     let sc = a.context.now.expression.now in
     let v = c.in-Is in
-    reads_as c.of_single.result c.of_single.new.bank c.of_single.new.parts.items q s sc (IsExpr a.front.place front v.class.0) (link_behind a.link.now a.front.place front)
-    (sym (ap (λ l. link_behind l a.front.place front) v.is ∙ is_is v.class a.front.place front))
+    reads_as c.of_single.result c.of_single.new.bank c.of_single.new.parts.items q s sc (IsExpr a.front.place front v.class.0) (link_after a.link.now a.front.place front)
+    (sym (ap (λ l. link_after l a.front.place front) v.is ∙ is_is v.class a.front.place front))
     (reads_is c.of_single.result s sc a.bank.now c.of_single.new.bank a.m a.parts.now.items c.of_single.new.parts.items q front c.of_single.ensures.grown h v.class a.front.place c.of_single.ensures.expressed)
 
 pub linked-returns-in-As-clause-expressed : goal.linked-returns-in-As-clause-expressed
@@ -216,8 +216,8 @@ linked-returns-in-As-clause-expressed t c = λ q front h told typed.
     let s = a.context.now.nulls.now in
     let sc = a.context.now.expression.now in
     let v = c.in-As in
-    reads_as c.of_single-in-As.result c.of_single-in-As.new.bank c.of_single-in-As.new.parts.items q s sc (AsExpr a.front.place front v.class.0) (link_behind a.link.now a.front.place front)
-    (sym (ap (λ l. link_behind l a.front.place front) v.is ∙ as_is v.class a.front.place front))
+    reads_as c.of_single-in-As.result c.of_single-in-As.new.bank c.of_single-in-As.new.parts.items q s sc (AsExpr a.front.place front v.class.0) (link_after a.link.now a.front.place front)
+    (sym (ap (λ l. link_after l a.front.place front) v.is ∙ as_is v.class a.front.place front))
     (reads_as_class c.of_single-in-As.result s sc a.bank.now c.of_single-in-As.new.bank a.m a.parts.now.items c.of_single-in-As.new.parts.items q front c.of_single-in-As.ensures.grown h v.class a.front.place c.of_single-in-As.ensures.expressed)
 
 pub stepped-returns-in-Field-clause-expressed : goal.stepped-returns-in-Field-clause-expressed
@@ -226,8 +226,8 @@ stepped-returns-in-Field-clause-expressed t c = λ q front h checked ty.
     let s = a.context.now.nulls.now in
     let sc = a.context.now.expression.now in
     let v = c.in-Field in
-    reads_as c.of_single.result c.of_single.new.bank c.of_single.new.parts.items q s sc (FieldExpr a.front.place front v.field.0) (step_behind a.step.now a.front.place front)
-    (sym (ap (λ l. step_behind l a.front.place front) v.is ∙ field_is v.field a.front.place front))
+    reads_as c.of_single.result c.of_single.new.bank c.of_single.new.parts.items q s sc (FieldExpr a.front.place front v.field.0) (step_after a.step.now a.front.place front)
+    (sym (ap (λ l. step_after l a.front.place front) v.is ∙ field_is v.field a.front.place front))
     (reads_field c.of_single.result s sc a.bank.now c.of_single.new.bank a.m a.parts.now.items c.of_single.new.parts.items q front c.of_single.ensures.grown h v.field a.front.place a.front.checked checked c.of_single.ensures.expressed)
 
 pub stepped-returns-in-Length-clause-expressed : goal.stepped-returns-in-Length-clause-expressed
@@ -236,8 +236,8 @@ stepped-returns-in-Length-clause-expressed t c = λ q front h checked ty.
     let s = a.context.now.nulls.now in
     let sc = a.context.now.expression.now in
     let v = c.in-Length in
-    reads_as c.of_single-in-Length.result c.of_single-in-Length.new.bank c.of_single-in-Length.new.parts.items q s sc (LengthExpr a.front.place front) (step_behind a.step.now a.front.place front)
-    (sym (ap (λ l. step_behind l a.front.place front) v.is ∙ length_is a.front.place front))
+    reads_as c.of_single-in-Length.result c.of_single-in-Length.new.bank c.of_single-in-Length.new.parts.items q s sc (LengthExpr a.front.place front) (step_after a.step.now a.front.place front)
+    (sym (ap (λ l. step_after l a.front.place front) v.is ∙ length_is a.front.place front))
     (reads_length c.of_single-in-Length.result s sc a.bank.now c.of_single-in-Length.new.bank a.m a.parts.now.items c.of_single-in-Length.new.parts.items q front c.of_single-in-Length.ensures.grown h a.front.place a.front.checked checked c.of_single-in-Length.ensures.expressed)
 
 pub stepped-returns-in-Element-clause-expressed : goal.stepped-returns-in-Element-clause-expressed
@@ -246,8 +246,8 @@ stepped-returns-in-Element-clause-expressed t c = λ q front h checked ty.
     let s = a.context.now.nulls.now in
     let sc = a.context.now.expression.now in
     let v = c.in-Element in
-    reads_as c.behind.result c.behind.new.bank c.behind.new.parts.items q s sc (ElementExpr a.front.place front (expr v.e)) (step_behind a.step.now a.front.place front)
-    (sym (ap (λ l. step_behind l a.front.place front) v.is ∙ element_is v.e a.front.place front))
+    reads_as c.behind.result c.behind.new.bank c.behind.new.parts.items q s sc (ElementExpr a.front.place front (expr v.e)) (step_after a.step.now a.front.place front)
+    (sym (ap (λ l. step_after l a.front.place front) v.is ∙ element_is v.e a.front.place front))
     (reads_element c.behind.result s sc a.bank.now c.behind.new.bank a.m a.parts.now.items c.behind.new.parts.items q front c.behind.ensures.grown h a.front.place (expr v.e) c.element_sort-sort.result a.front.checked
     (c.element_sort-sort.ensures ∙ ap (λ x. spec.element_sort (element_of (classes sc.classes.now) x)) ty) checked c.behind.ensures.expressed)
 
@@ -386,11 +386,11 @@ chain-loop-link-preserved t c =
     let next = front_next a.start.at head a.links.now i c.link-item.result c.loop-link-test.true c.link-item.is in
     record {
       grown = IsGrown-then a.bank.now c.loop-link.bank c.linked.new.bank c.loop-link.invariant.grown c.linked.ensures.grown;
-      typed = subst (λ (tys : List Ty). c.loop-link.ty ≡ type_of (classes sc.classes.now) tys here → c.link_type-ty.result ≡ type_of (classes sc.classes.now) tys (link_behind c.link-item.result a.start.at here)) c.deref-in-loop-link.ensures.value
+      typed = subst (λ (tys : List Ty). c.loop-link.ty ≡ type_of (classes sc.classes.now) tys here → c.link_type-ty.result ≡ type_of (classes sc.classes.now) tys (link_after c.link-item.result a.start.at here)) c.deref-in-loop-link.ensures.value
           (c.link_type-ty.ensures a.start.at here) c.loop-link.invariant.typed
           ∙ ap (λ x. type_of (classes sc.classes.now) sc.types.items x) (sym next);
       told = subst (λ (e : ExprTree). TellsFront c.add.new.self e) (sym next) (c.in_ok-add.ensures a.start.at here c.loop-link.invariant.told);
-      reads = λ q h. reads_tree c.linked.new.bank c.in_ok-front.front c.linked.new.parts.items q s sc (link_behind c.link-item.result a.start.at here) (chain_front a.start.at head (take (i + 1) a.links.now)) (sym next)
+      reads = λ q h. reads_tree c.linked.new.bank c.in_ok-front.front c.linked.new.parts.items q s sc (link_after c.link-item.result a.start.at here) (chain_front a.start.at head (take (i + 1) a.links.now)) (sym next)
           (c.in_ok-front.ensures.expressed q here (c.loop-link.invariant.reads q h) c.loop-link.invariant.told c.loop-link.invariant.typed);
     }
 
@@ -410,9 +410,9 @@ path-loop-i-preserved t c =
     let next = path_next a.start.at head a.steps.now i c.index-steps-i.result c.loop-i-test.true c.index-steps-i.is in
     record {
       grown = IsGrown-then a.bank.now c.loop-i.bank c.stepped.new.bank c.loop-i.invariant.grown c.stepped.ensures.grown;
-      typed = subst (λ (tys : List Ty). c.loop-i.ty ≡ type_of (classes sc.classes.now) tys here → c.step_type-ty.result ≡ type_of (classes sc.classes.now) tys (step_behind c.index-steps-i.result a.start.at here)) c.deref-in-loop-i.ensures.value
+      typed = subst (λ (tys : List Ty). c.loop-i.ty ≡ type_of (classes sc.classes.now) tys here → c.step_type-ty.result ≡ type_of (classes sc.classes.now) tys (step_after c.index-steps-i.result a.start.at here)) c.deref-in-loop-i.ensures.value
           (c.step_type-ty.ensures a.start.at here) c.loop-i.invariant.typed
           ∙ ap (λ x. type_of (classes sc.classes.now) sc.types.items x) (sym next);
-      reads = λ q h. reads_tree c.stepped.new.bank c.in_ok-front.front c.stepped.new.parts.items q s sc (step_behind c.index-steps-i.result a.start.at here) (path_front a.start.at head (take (i + 1) a.steps.now)) (sym next)
+      reads = λ q h. reads_tree c.stepped.new.bank c.in_ok-front.front c.stepped.new.parts.items q s sc (step_after c.index-steps-i.result a.start.at here) (path_front a.start.at head (take (i + 1) a.steps.now)) (sym next)
           (c.in_ok-front.ensures.expressed q here (c.loop-i.invariant.reads q h) (c.front_may_be_null-checked.ensures a.start.at) c.loop-i.invariant.typed);
     }

@@ -1,4 +1,4 @@
--- What a call behind a dot in code without faults means.
+-- What a call after a dot in code without faults means.
 use Rattle.std.proofs.Common.{◌≡◌, ℕ, ◌+◌, ◌*◌, ◌<◌, List, [], ◌∷◌, length, Bool, true, false, Option, Some, None, refl, sym, ◌∙◌, ap, subst, arith}
 use Rattle.std.specs.Prelude.{◌&&◌, ◌||◌, ◌==◌, not, is_some, codes, if◌then◌else◌}
 use Rattle.std.specs.Str.{bytes_eq}
@@ -22,7 +22,7 @@ use Rattle.ss_resolver_names_rules.specs.Programs.{program_faults}
 use Rattle.ss_resolver_types_heads.specs.Wants.{Printable, gives_nothing, has_no_value}
 use Rattle.ss_resolver_types_heads.specs.Calls.{ExprContext, Called, Taking, Refused, Unknown, param_wants, called_console, called_on_object, called_on_declared, called_on_class, method_or_field, without_members, argument_wants, is_wrong_call}
 use Rattle.ss_resolver_types_heads.specs.Expressions.{argument_faults}
-use Rattle.ss_resolver_rules.specs.Expressions.{call_of, method_call, place_or_own, called_behind, expr, args}
+use Rattle.ss_resolver_rules.specs.Expressions.{call_of, method_call, place_or_own, called_after, expr, args}
 use Rattle.ss_resolver_rules.specs.Programs.{resolved}
 use Rattle.ss_expand_formed.specs.Laws.{core_of}
 use Rattle.ss_expand_formed.proofs.Facts.{not_false}
@@ -117,8 +117,8 @@ module _ (p : ProgramTree) (faultless : program_faults p ≡ []) (x : Context) (
       let static_is : statics.static (scope_at p a) (CallOf q (MemberOf m y n) es) ≡ None = ap (λ c. call_type p.classes (called_with (count es) c)) here_is ∙ (rw takes refl) in
       let nothing : has_no_value T (CallOf q (MemberOf m y n) es) ≡ true = ap (λ c. gives_nothing (called_with (count es) c)) there_is ∙ (rw takes refl) in
       let tree : expr (env_at p a) (CallOf q (MemberOf m y n) es) ≡ NullOf q =
-      ap (λ k. called_behind (env_at p a) q k (expr (env_at p a) y) n.text es (args (env_at p a) es) (member_callee (scope_at p a) n.text k)) r
-      ∙ ap (called_behind (env_at p a) q TheConsole (expr (env_at p a) y) n.text es (args (env_at p a) es)) callee_is in
+      ap (λ k. called_after (env_at p a) q k (expr (env_at p a) y) n.text es (args (env_at p a) es) (member_callee (scope_at p a) n.text k)) r
+      ∙ ap (called_after (env_at p a) q TheConsole (expr (env_at p a) y) n.text es (args (env_at p a) es)) callee_is in
       record {
         typed = λ u e. absurd (let z : None ≡ Some u = sym static_is ∙ e in let w : ⊥ = cc in w);
         valued = ap (λ b. is_some (statics.static (scope_at p a) (CallOf q (MemberOf m y n) es)) || b) nothing ∙ either (is_some (statics.static (scope_at p a) (CallOf q (MemberOf m y n) es)));
@@ -143,8 +143,8 @@ module _ (p : ProgramTree) (faultless : program_faults p ≡ []) (x : Context) (
       let callee_is : member_callee (scope_at p a) n.text (AClass j) ≡ AMethod w.method = rw word (kind_called true (method_of p.classes j n.text) w.method w.is w.kind_is) in
       let callee_in : member_callee T n.text (AClass j) ≡ AMethod w.method = rw word (kind_called true (method_of p.classes j n.text) w.method w.is w.kind_is) in
       call_is p faultless x is_known static lacks answer a here q (MemberOf m y n) es j (expr (env_at p a) y) w.method has (ap (member_callee (scope_at p a) n.text) r ∙ callee_is) (ap (member_callee T n.text) rt ∙ callee_in) t.0
-      (ap (λ k. called_behind (env_at p a) q k (expr (env_at p a) y) n.text es (args (env_at p a) es) (member_callee (scope_at p a) n.text k)) r
-      ∙ ap (called_behind (env_at p a) q (AClass j) (expr (env_at p a) y) n.text es (args (env_at p a) es)) callee_is)
+      (ap (λ k. called_after (env_at p a) q k (expr (env_at p a) y) n.text es (args (env_at p a) es) (member_callee (scope_at p a) n.text k)) r
+      ∙ ap (called_after (env_at p a) q (AClass j) (expr (env_at p a) y) n.text es (args (env_at p a) es)) callee_is)
       (method_fit p faultless x is_known static lacks answer a here q j l (expr (env_at p a) y) (args (env_at p a) es) w.method has (λ s. absurd (false≢true (sym s ∙ w.kind_is))) t.1)
 
   -- ---- values
@@ -167,8 +167,8 @@ module _ (p : ProgramTree) (faultless : program_faults p ≡ []) (x : Context) (
       let callee_in : member_callee T n.text (AValue (Some (ty.Ref (record { 0 = c }) nn))) ≡ AMethod w.method = rw (call, read, e) (kind_called false (method_of p.classes k n.text) w.method w.is w.kind_is) in
       let tree_is : call_of (env_at p a) q (AValue (Some (ty.Ref (record { 0 = c }) nn))) o (args (env_at p a) es) w.method ≡ method_call (env_at p a) q k o (args (env_at p a) es) w.method = ap (λ z. method_call (env_at p a) q (place_or_own (env_at p a) z) o (args (env_at p a) es) w.method) e in
       call_is p faultless x is_known static lacks answer a here q (MemberOf m y n) es k o w.method has (ap (member_callee (scope_at p a) n.text) r ∙ callee_is) (ap (member_callee T n.text) rt ∙ callee_in) t.0
-      (ap (λ z. called_behind (env_at p a) q z o n.text es (args (env_at p a) es) (member_callee (scope_at p a) n.text z)) r
-      ∙ ap (called_behind (env_at p a) q (AValue (Some (ty.Ref (record { 0 = c }) nn))) o n.text es (args (env_at p a) es)) callee_is ∙ tree_is)
+      (ap (λ z. called_after (env_at p a) q z o n.text es (args (env_at p a) es) (member_callee (scope_at p a) n.text z)) r
+      ∙ ap (called_after (env_at p a) q (AValue (Some (ty.Ref (record { 0 = c }) nn))) o n.text es (args (env_at p a) es)) callee_is ∙ tree_is)
       (method_fit p faultless x is_known static lacks answer a here q k l o (args (env_at p a) es) w.method has (λ z. (s.fit, (nn, s.typed (ty.Ref (record { 0 = c }) nn) is ∙ ap (λ (u : ℕ). Some (ty.Ref (record { 0 = u }) nn)) number))) t.1)
 
   -- what is called of a value

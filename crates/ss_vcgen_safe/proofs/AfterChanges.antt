@@ -1,4 +1,4 @@
--- The term of a change stands for the store behind it.
+-- The term of a change stands for the store after it.
 use Rattle.std.proofs.Common.{◌≡◌, ℕ, ℤ, List, [], ◌∷◌, length, true, Ok, ◌∙◌, ap}
 use Rattle.ss_core.specs.declared.names.Mark.{Mark}
 use Rattle.ss_core.specs.declared.names.Mark.TheVariants as mark
@@ -54,30 +54,30 @@ module _ (cs : List ClassTree) (m : Structure) where
   -- ---- changes
 
   module _ (s : Term) (l : List Object) (has : HasStore cs m s l) where
-    pub ready_behind : (o : Term) (v : ObjectValue) → StandsFor cs m o (standing v) → IsGood cs (invariants_hold cs) (with_ready l v) → HasStore cs m (app MakeReady (s ∷ o ∷ [])) (with_ready l v)
-    ready_behind o v x good = record {
+    pub ready_after : (o : Term) (v : ObjectValue) → StandsFor cs m o (standing v) → IsGood cs (invariants_hold cs) (with_ready l v) → HasStore cs m (app MakeReady (s ∷ o ∷ [])) (with_ready l v)
+    ready_after o v x good = record {
       heap = changed (made_ready (as_thing (standing v))) has.heap;
       stands = of_two MakeReady s o (store has.heap) (standing v) has.stands x;
       is = made_ready_store cs m.table has.heap l has.is v good;
     }
 
-    pub unpack_behind : (o : Term) (v : ObjectValue) (t : ℕ) (z : List Object) → StandsFor cs m o (standing v) → unpack_of cs l v t ≡ Ok z → IsGood cs (invariants_hold cs) z → HasStore cs m (app (Unpack t) (s ∷ o ∷ [])) z
-    unpack_behind o v t z x e good = record {
+    pub unpack_after : (o : Term) (v : ObjectValue) (t : ℕ) (z : List Object) → StandsFor cs m o (standing v) → unpack_of cs l v t ≡ Ok z → IsGood cs (invariants_hold cs) z → HasStore cs m (app (Unpack t) (s ∷ o ∷ [])) z
+    unpack_after o v t z x e good = record {
       heap = changed (unpacked cs (as_thing (standing v)) t) has.heap;
       stands = of_two (Unpack t) s o (store has.heap) (standing v) has.stands x;
       is = unpacked_store cs m.table has.heap l has.is v t z e good;
     }
 
-    pub pack_behind : (holds : Invariants) (o : Term) (v : ObjectValue) (t : ℕ) (z : List Object) → StandsFor cs m o (standing v) → pack_of cs holds l v t ≡ Ok z → IsGood cs (invariants_hold cs) z → HasStore cs m (app (Pack t) (s ∷ o ∷ [])) z
-    pack_behind holds o v t z x e good = record {
+    pub pack_after : (holds : Invariants) (o : Term) (v : ObjectValue) (t : ℕ) (z : List Object) → StandsFor cs m o (standing v) → pack_of cs holds l v t ≡ Ok z → IsGood cs (invariants_hold cs) z → HasStore cs m (app (Pack t) (s ∷ o ∷ [])) z
+    pack_after holds o v t z x e good = record {
       heap = changed (packed (as_thing (standing v)) t) has.heap;
       stands = of_two (Pack t) s o (store has.heap) (standing v) has.stands x;
       is = packed_store cs m.table has.heap l has.is holds v t z e good;
     }
 
-    pub write_behind : (o u : Term) (v : ObjectValue) (f : ℕ) (w : ObjectValue) (z : List Object) → StandsFor cs m o (standing v) → StandsFor cs m u (standing w) → write_of cs l v f w ≡ Ok z → (field_type cs f ≡ ty.Null → ⊥) → has_type cs l (field_type cs f) w ≡ true → IsGood cs (invariants_hold cs) z →
+    pub write_after : (o u : Term) (v : ObjectValue) (f : ℕ) (w : ObjectValue) (z : List Object) → StandsFor cs m o (standing v) → StandsFor cs m u (standing w) → write_of cs l v f w ≡ Ok z → (field_type cs f ≡ ty.Null → ⊥) → has_type cs l (field_type cs f) w ≡ true → IsGood cs (invariants_hold cs) z →
         HasStore cs m (app (Set f) (owned_store (field_mark cs f) s o (field_class cs f) u ∷ o ∷ u ∷ [])) z
-    write_behind o u v f w z x y e known typed good =
+    write_after o u v f w z x y e known typed good =
         let h : Heap = owned_heap (field_mark cs f) has.heap (as_thing (standing v)) (field_class cs f) (as_thing (standing w)) in
         record {
           heap = changed (field_set (as_thing (standing v)) f (standing w)) h;
@@ -86,9 +86,9 @@ module _ (cs : List ClassTree) (m : Structure) where
           is = written_store cs m.table has.heap l has.is v f w z e known typed good;
         }
 
-    pub put_behind : (a i u : Term) (v : ObjectValue) (n : ℤ) (w : ObjectValue) (z : List Object) → StandsFor cs m a (standing v) → StandsFor cs m i (whole n) → StandsFor cs m u (standing w) → write_element_of l v n w ≡ Ok z → IsGood cs (invariants_hold cs) z →
+    pub put_after : (a i u : Term) (v : ObjectValue) (n : ℤ) (w : ObjectValue) (z : List Object) → StandsFor cs m a (standing v) → StandsFor cs m i (whole n) → StandsFor cs m u (standing w) → write_element_of l v n w ≡ Ok z → IsGood cs (invariants_hold cs) z →
         HasStore cs m (app Put (s ∷ a ∷ i ∷ u ∷ [])) z
-    put_behind a i u v n w z x y q e good = record {
+    put_after a i u v n w z x y q e good = record {
       heap = changed (element_put (as_thing (standing v)) n (standing w)) has.heap;
       stands = of_four Put s a i u (store has.heap) (standing v) (whole n) (standing w) has.stands x y q;
       is = element_store cs m.table has.heap l has.is v n w z e good;
@@ -99,15 +99,15 @@ module _ (cs : List ClassTree) (m : Structure) where
     pub next_stands : StandsFor cs m (next_of s) (standing (value.Obj (length l)))
     next_stands e = ap (λ v. applied cs m Next (v ∷ [])) (has.stands e) ∙ ap (λ n. thing (reference n)) (next_is cs m.table has.heap l has.is)
 
-    pub new_behind : (t : ℕ) → Fits cs m.table (new_object_of cs l t) → IsGood cs (invariants_hold cs) (new_object_of cs l t) → HasStore cs m (app (New t) (s ∷ [])) (new_object_of cs l t)
-    new_behind t fits good = record {
+    pub new_after : (t : ℕ) → Fits cs m.table (new_object_of cs l t) → IsGood cs (invariants_hold cs) (new_object_of cs l t) → HasStore cs m (app (New t) (s ∷ [])) (new_object_of cs l t)
+    new_after t fits good = record {
       heap = with_new (new_object has.heap.next) has.heap;
       stands = of_one (New t) s (store has.heap) has.stands;
       is = new_store cs m.table has.heap l has.is t fits good;
     }
 
-    pub array_behind : (i : Term) (t : ℕ) (n : ℤ) (z : List Object) → StandsFor cs m i (whole n) → new_array_of l t n ≡ Ok z → Fits cs m.table z → IsGood cs (invariants_hold cs) z → HasStore cs m (app (NewArray t) (s ∷ i ∷ [])) z
-    array_behind i t n z x e fits good = record {
+    pub array_after : (i : Term) (t : ℕ) (n : ℤ) (z : List Object) → StandsFor cs m i (whole n) → new_array_of l t n ≡ Ok z → Fits cs m.table z → IsGood cs (invariants_hold cs) z → HasStore cs m (app (NewArray t) (s ∷ i ∷ [])) z
+    array_after i t n z x e fits good = record {
       heap = with_new (new_array t has.heap.next) has.heap;
       stands = of_two (NewArray t) s i (store has.heap) (whole n) has.stands x;
       is = array_store cs m.table has.heap l has.is t n z e fits good;

@@ -2,7 +2,7 @@ use Rattle.std.proofs.Common.{◌∷◌, ap, ◌∙◌}
 use Rattle.ss_logic.specs.Express.{One}
 use Rattle.ss_terms.proofs.Grown.{HasTerms-grown}
 use Rattle.ss_vcgen_contracts.specs.Views.{ones_at}
-use Rattle.ss_vcgen_bodies.proofs.calls.behind_this.Goals as goal
+use Rattle.ss_vcgen_bodies.proofs.calls.after_this.Goals as goal
 
 pub returns-clause-at : goal.returns-clause-at
 returns-clause-at c =

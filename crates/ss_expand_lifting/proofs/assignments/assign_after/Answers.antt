@@ -5,9 +5,9 @@ use Rattle.ss_expand_rules.specs.Code.{after}
 use Rattle.ss_expand_rules.specs.Simple as simple
 use Rattle.ss_expand_expressions.specs.Sources.{stmts_of}
 use Rattle.ss_expand_lifting.specs.Contexts.{context_of}
-use Rattle.ss_expand_lifting.proofs.Codes.{assign_is_behind}
+use Rattle.ss_expand_lifting.proofs.Codes.{assign_is_after}
 use Rattle.ss_expand_lifting.proofs.Statements.{kept_target}
-use Rattle.ss_expand_lifting.proofs.assignments.assign_behind.Goals as goal
+use Rattle.ss_expand_lifting.proofs.assignments.assign_after.Goals as goal
 
 pub returns-in_ok-assign_settled-in-Some : goal.returns-in_ok-assign_settled-in-Some
 returns-in_ok-assign_settled-in-Some c =
@@ -15,12 +15,12 @@ returns-in_ok-assign_settled-in-Some c =
     let e = expr c.args.e.now in
     let now = stmts_of c.settle.new.code.statements in
     let made = c.settle.new.made.items in
-    assign_is_behind s e (stmts_of c.args.code.now.statements) _ _ _ (simple.settle s (expr c.args.target.now) c.args.made.now.items) _
+    assign_is_after s e (stmts_of c.args.code.now.statements) _ _ _ (simple.settle s (expr c.args.target.now) c.args.made.now.items) _
     (kept_target (expr c.args.target.now) _ _ _ (Some c.in-Some.settled) _ c.in-Some.is c.in_ok-kept.ensures)
     (c.in_ok-assign_settled-in-Some.ensures ∙ ap (λ (x : TypedExpr). after now (simple.assign_settled s (expr x) e made)) c.deref.ensures)
 
 pub returns-in_ok-assign_settled-in-None : goal.returns-in_ok-assign_settled-in-None
 returns-in_ok-assign_settled-in-None c =
     let s = context_of c.args.context.now in
-    assign_is_behind s (expr c.args.e.now) (stmts_of c.args.code.now.statements) _ _ _ (simple.settle s (expr c.args.target.now) c.args.made.now.items) _
+    assign_is_after s (expr c.args.e.now) (stmts_of c.args.code.now.statements) _ _ _ (simple.settle s (expr c.args.target.now) c.args.made.now.items) _
     (kept_target (expr c.args.target.now) _ _ _ None _ c.in-None.is c.in_ok-kept.ensures) c.in_ok-assign_settled-in-None.ensures

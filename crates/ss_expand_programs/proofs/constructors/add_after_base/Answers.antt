@@ -7,7 +7,7 @@ use Rattle.ss_expand_rules.specs.Statements.{stmts}
 use Rattle.ss_expand_expressions.specs.Sources.{stmts_of}
 use Rattle.ss_expand_lifting.specs.Contexts.{context_of}
 use Rattle.ss_expand_programs.proofs.Codes.{one_then}
-use Rattle.ss_expand_programs.proofs.constructors.add_behind_base.Goals as goal
+use Rattle.ss_expand_programs.proofs.constructors.add_after_base.Goals as goal
 
 pub returns-clause-coded : goal.returns-clause-coded
 returns-clause-coded c =

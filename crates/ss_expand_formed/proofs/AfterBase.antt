@@ -1,4 +1,4 @@
--- Behind `base(..)` the `this` of a constructor that isn't delayed has all its fields.
+-- After `base(..)` the `this` of a constructor that isn't delayed has all its fields.
 use Rattle.std.proofs.Common.{◌≡◌, ℕ, List, [], ◌∷◌, ◌++◌, Bool, true, false, Option, Some, None, refl, sym, ◌∙◌, ap, subst}
 use Rattle.std.specs.Prelude.{not, ◌==◌, if◌then◌else◌}
 use Rattle.std.proofs.lemmas.Bool.{or_left, or_right, eqb-true, false≢true}
@@ -14,7 +14,7 @@ use Rattle.ss_expand_rules.specs.Program.{above_of, Constructor, number_of}
 use Rattle.ss_typed.specs.Lookups.{constructor_of, param_types_in}
 use Rattle.ss_expand_rules.specs.Lifting.{ElaborationContext, arguments_of}
 use Rattle.ss_expand_rules.specs.Code.{Coded}
-use Rattle.ss_expand_rules.specs.Simple.{has_delayed_constructor, ready_behind, base_with, base_of}
+use Rattle.ss_expand_rules.specs.Simple.{has_delayed_constructor, ready_after, base_with, base_of}
 use Rattle.ss_expand_rules.specs.Statements.{stmts}
 use Rattle.ss_store_rules.specs.Paths.{at_end, where_reached}
 use Rattle.ss_store_rules.specs.NonNull.{Known}
@@ -58,24 +58,24 @@ module _ (z : Frame) where
     base_gives_all s same object p es t made l =
         let given = arguments_of s (param_types_in (constructor_of s.program t)) es made in
         let call = CallStmt p None (BaseConstructor (number_of s.program (Constructor t))) given.values in
-        where_chosen (λ (c : Coded). Behind c.code l) (t == 0) (record { code = ready_behind s p t; made = made }) (base_with s p t given)
+        where_chosen (λ (c : Coded). Behind c.code l) (t == 0) (record { code = ready_after s p t; made = made }) (base_with s p t given)
         (λ yes.
         let top : t ≡ 0 = eqb-true t 0 yes in
         let delayed : has_delayed_constructor s.program t ≡ true = ap (has_delayed_constructor s.program) top ∙ object in
-        let is : ready_behind s p t ≡ ReadyStmt p ∷ [] = ap (λ (v : Bool). if v then [] else if has_delayed_constructor s.program t then ReadyStmt p ∷ [] else []) same ∙ ap (λ (v : Bool). if v then ReadyStmt p ∷ [] else []) delayed in
+        let is : ready_after s p t ≡ ReadyStmt p ∷ [] = ap (λ (v : Bool). if v then [] else if has_delayed_constructor s.program t then ReadyStmt p ∷ [] else []) same ∙ ap (λ (v : Bool). if v then ReadyStmt p ∷ [] else []) delayed in
         subst (λ (xs : Code). Behind xs l) (sym is) (readied p l))
-        (λ no. later given.code (call ∷ ready_behind s p t) l (kept (call ∷ []) (ready_behind s p t) (at_end (flow z) (code_of given.code) l) (called p (number_of s.program (Constructor t)) given.values (at_end (flow z) (code_of given.code) l))))
+        (λ no. later given.code (call ∷ ready_after s p t) l (kept (call ∷ []) (ready_after s p t) (at_end (flow z) (code_of given.code) l) (called p (number_of s.program (Constructor t)) given.values (at_end (flow z) (code_of given.code) l))))
 
 module _ (c : core.CoreTree) (p : TypedTree) (b : BodyTree) (bs : List BodyTree) (fields : ℕ → Bool) (early : b.flags.delayed ≡ false) (object : has_delayed_constructor p 0 ≡ true) where
-  -- before it, and behind it, where it is as in a method
+  -- before it, and after it, where it is as in a method
   abbrev z : Frame
   z = body_frame c p b bs fields false
 
   abbrev w : Frame
   w = method_frame c p b bs
 
-  pub behind_base : Agrees z → Builds z → (k m : source.Known) (q : Place) (es : Arguments) (more : StmtTrees) → base_fits z es ≡ true → handed_to_base z.context (Some k) es ≡ [] → ((x : ℕ) → m.facts x ≡ true → k.facts x ≡ true) → HoldFrom w m more → HoldFrom z k (Before (SimpleOf (BaseCallOf q es)) more)
-  behind_base agrees builds k m q es more fit clean less rest made l known has =
+  pub after_base : Agrees z → Builds z → (k m : source.Known) (q : Place) (es : Arguments) (more : StmtTrees) → base_fits z es ≡ true → handed_to_base z.context (Some k) es ≡ [] → ((x : ℕ) → m.facts x ≡ true → k.facts x ≡ true) → HoldFrom w m more → HoldFrom z k (Before (SimpleOf (BaseCallOf q es)) more)
+  after_base agrees builds k m q es more fit clean less rest made l known has =
       let s = elaboration_context z [] in
       let one = base_of s q es (above_of p b.class) made in
       let first = base_known z agrees builds [] k l q es made known fit clean (made_before z agrees one.made (stmts s more one.made).made (stmts_begin s more one.made) has) in
