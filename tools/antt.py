@@ -96,6 +96,7 @@ WORDS = {
     'is_none': (1, lambda o: o.name == 'None'),
     'option_map': (2, lambda f, o: NONE if o.name == 'None' else some(call(f, o.args[0]))),
     'option_and_then': (2, lambda f, o: NONE if o.name == 'None' else call(f, o.args[0])),
+    'option_or': (2, lambda o, p: p if o.name == 'None' else o),
     'unwrap_or': (2, lambda o, d: d if o.name == 'None' else o.args[0]),
     'option_to_list': (1, lambda o: o.args),
     'map': (2, lambda f, xs: tuple(call(f, x) for x in xs)),
@@ -297,7 +298,7 @@ def strip_comments(text):
 def indent(l): return len(l) - len(l.lstrip(' '))
 
 def items(lines):
-    """groups of lines: a first line and those more indented behind it"""
+    """groups of lines: a first line and the more indented ones that follow"""
     out = []
     if not lines: return out
     base = indent(lines[0])

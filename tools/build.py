@@ -1,11 +1,12 @@
 #!/usr/bin/env python3
 """Builds the program, or answers by a run before any proof.
 
-tools/build.py program             proves and builds what is missing or older than its sources: the libraries lowest first,
-                                   four at a time, each in a copy of the sources of its own, then the program. The status is
-                                   0 where the program is there and new.
+tools/build.py program WORDS       proves and builds what is missing or older than its sources: the libraries lowest first,
+                                   four at a time, each in a copy of the sources of its own, then the program. Where there are
+                                   words it goes on as the program with these, else the status is 0.
 tools/build.py unproved WORDS      runs the program with these words before any proof
 """
+import contextlib
 import os
 import shutil
 import signal
@@ -13,6 +14,8 @@ import subprocess
 import sys
 import tempfile
 import time
+
+import words as command_line
 
 TOP = os.path.dirname(os.path.dirname(os.path.abspath(__file__)))
 PROGRAM = "ss_main"
@@ -25,7 +28,8 @@ UNPROVED = "about 80 seconds"
 
 
 def say(text):
-    print(text, file=sys.stderr, flush=True)
+    with contextlib.suppress(OSError):
+        print(text, file=sys.stderr, flush=True)
 
 
 def crates():
@@ -40,7 +44,7 @@ def crates():
 
 
 def lowest_first(below, top):
-    """The crates that a crate stands on, each behind those that it stands on itself, and last the crate."""
+    """The crates that a crate stands on, each after those that it stands on itself, and last the crate."""
     order = []
 
     def visit(name):
@@ -98,6 +102,7 @@ class Lane:
     def __init__(self, top, names):
         self.top = top
         for name in names:
+            heed()
             for part in ("src", "specs", "proofs"):
                 if os.path.isdir(os.path.join(folder(name), part)):
                     shutil.copytree(os.path.join(folder(name), part), os.path.join(self.folder(name), part))
@@ -120,22 +125,58 @@ def share(source, target):
     shutil.copytree(built, here, copy_function=link_or_copy)
 
 
-def started(words, where, log):
-    """A command in a crate's folder, with its output in a file, as a group of processes of its own."""
+class Stopped(Exception):
+    """A signal asked for an end."""
+
+
+signals = []
+
+
+def note_signals():
+    """Notes from now on what asks for an end, where it isn't ignored. `heed` heeds it where nothing is half done."""
+    for number in (signal.SIGTERM, signal.SIGHUP, signal.SIGINT):
+        if signal.getsignal(number) != signal.SIG_IGN:
+            signal.signal(number, lambda number, frame: signals.append(number))
+
+
+def heed():
+    if signals:
+        raise Stopped
+
+
+def started(words, where, output, errors):
+    """A command in a crate's folder, as a group of processes of its own."""
     return subprocess.Popen(
         words,
         cwd=where,
         stdin=subprocess.DEVNULL,
-        stdout=log,
-        stderr=subprocess.STDOUT,
+        stdout=output,
+        stderr=errors,
         start_new_session=True,
     )
 
 
 def end(process):
     """Ends a command and what it has started."""
-    os.killpg(process.pid, signal.SIGTERM)
-    process.wait()
+    for number in (signal.SIGTERM, signal.SIGKILL):
+        with contextlib.suppress(ProcessLookupError):
+            os.killpg(process.pid, number)
+        with contextlib.suppress(subprocess.TimeoutExpired):
+            process.wait(timeout=10)
+
+
+@contextlib.contextmanager
+def new_folder():
+    """A folder that is removed after use, though what was ended may write there for a while."""
+    room = tempfile.mkdtemp(prefix="specsharp-")
+    try:
+        yield room
+    finally:
+        for wait in (0, 0.2, 1, 5):
+            time.sleep(wait)
+            shutil.rmtree(room, ignore_errors=True)
+            if not os.path.exists(room):
+                break
 
 
 def words_of(name):
@@ -171,6 +212,7 @@ def build(names, below, room):
     waiting, free, running, done = list(names), list(lanes), {}, set()
     try:
         while waiting or running:
+            heed()
             while free:
                 name = ready(waiting, done, below)
                 if name is None:
@@ -179,7 +221,7 @@ def build(names, below, room):
                 lane = free.pop()
                 where = folder(name) if name == PROGRAM else lane.folder(name)
                 log = open(os.path.join(room, name), "w+b")
-                running[name] = (started(words_of(name), where, log), lane, log, time.time())
+                running[name] = (started(words_of(name), where, log, subprocess.STDOUT), lane, log, time.time())
             time.sleep(0.1)
             for name, (process, lane, log, since) in list(running.items()):
                 if process.poll() is None:
@@ -229,7 +271,7 @@ def build_program():
     say("Until then `./specsharp --unproved WORDS` answers, and proves nothing.")
     since = time.time()
     newest = newest_source(names)
-    with tempfile.TemporaryDirectory() as room:
+    with new_folder() as room:
         build(names, below, room)
     if not os.access(os.path.join(folder(PROGRAM), "out", PROGRAM), os.X_OK):
         raise Failed("the program isn't there after its build")
@@ -238,37 +280,51 @@ def build_program():
     os.utime(stamp(), ns=(newest, newest))
 
 
-def named_files(words):
-    """What a run before any proof is given of each file that a word names: a copy under the file's own name.
+def run_program(words):
+    """Goes on as the program, without the signals that Python ignores."""
+    for number in (signal.SIGPIPE, signal.SIGXFSZ):
+        signal.signal(number, signal.SIG_DFL)
+    program = os.path.join(folder(PROGRAM), "out", PROGRAM)
+    os.execv(program, [program, *words])
 
-    It runs in a folder of its own, so that this folder stands for any other.
+
+def named_file(words):
+    """The words for a run before any proof, and what it is given: a copy of their file under the file's own name.
+
+    It runs in a folder of its own.
     """
-    given, data = [], []
-    for word in words:
-        if os.path.isfile(word):
-            name = os.path.basename(word)
-            data += ["--data", f"{name}={os.path.abspath(word)}"]
-            given.append(name)
-        elif os.path.isdir(word):
-            given.append(".")
-        else:
-            given.append(word)
-    return given, data
+    try:
+        at = command_line.file_at(words)
+    except command_line.Refused:
+        return words, []
+    if not os.path.isfile(words[at]):
+        return words, []
+    name = os.path.basename(words[at])
+    given = "./" + name if name.startswith("-") else name
+    return [*words[:at], given, *words[at + 1 :]], ["--data", f"{name}={os.path.abspath(words[at])}"]
+
+
+def outcome(words, where):
+    """The status, standard output and standard error of a command."""
+    process = started(words, where, subprocess.PIPE, subprocess.PIPE)
+    try:
+        while True:
+            heed()
+            with contextlib.suppress(subprocess.TimeoutExpired):
+                output, errors = process.communicate(timeout=0.1)
+                return process.returncode, output, errors
+    finally:
+        if process.poll() is None:
+            end(process)
 
 
 def unproved(words):
     say(f"specsharp: nothing is proved of this answer. It comes from a run before any proof, in {UNPROVED}.")
-    given, data = named_files(words)
-    run = subprocess.run(
-        ["rt", "try", *data, "--", *given],
-        cwd=folder(PROGRAM),
-        stdin=subprocess.DEVNULL,
-        stdout=subprocess.PIPE,
-        stderr=subprocess.PIPE,
-    )
-    sys.stdout.buffer.write(run.stdout)
+    given, data = named_file(words)
+    status, output, errors = outcome(["rt", "try", *data, "--", *given], folder(PROGRAM))
+    sys.stdout.buffer.write(output)
     sys.stdout.flush()
-    told = run.stderr.decode("utf-8", "replace").splitlines()
+    told = errors.decode("utf-8", "replace").splitlines()
     if not (told and told[-1].startswith("run=ended ")):
         for line in told[-20:]:
             say("  " + line)
@@ -276,20 +332,24 @@ def unproved(words):
     for line in told:
         if not line.startswith(("checked: ended ", "run=ended ")):
             say(line)
-    return run.returncode
+    return status
 
 
 def main():
+    note_signals()
     try:
         if sys.argv[1:2] == ["unproved"]:
             return unproved(sys.argv[2:])
         build_program()
+        heed()
+        if sys.argv[2:]:
+            run_program(sys.argv[2:])
         return 0
     except FileNotFoundError as error:
         say(f"specsharp: {error.filename} isn't there; README.md says what is needed")
     except Failed as failed:
         say(f"specsharp: {failed}")
-    except KeyboardInterrupt:
+    except Stopped:
         say("specsharp: stopped; what was built is kept")
     return NOT_BUILT
 

@@ -630,7 +630,7 @@ class Parser:
 
     def cast_here(self):
         """At `(`: None, or True where Type `)` and a token of the cast's list follow, or False where only a cast is derivable
-        but the token behind isn't of the list, or the type isn't whole."""
+        but the next token isn't of the list, or the type isn't whole."""
         k = 1
         t = self.tok(k)
         sure = False
@@ -686,7 +686,7 @@ class Parser:
         return self.post()
 
     def args(self):
-        """behind the `(`"""
+        """after the `(`"""
         out = []
         if not self.is_sym(')'):
             out.append(self.expr())

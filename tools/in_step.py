@@ -5,7 +5,7 @@ the run make: its guard is true, the terms of its locals and of its store have t
 statement's obligations each goal is true where the machine goes on; where it fails, the first one that isn't has the kind and the place.
 
 A heap of the structure has the objects of a store, and elsewhere the default entry. Its one table is that of the last store. A constant has the
-value that the run gives it (an argument, a result, a store behind a call, what a loop assigns) or the one by which it is defined. `good` counts
+value that the run gives it (an argument, a result, a store after a call, what a loop assigns) or the one by which it is defined. `good` counts
 as true. A bound object is null, an object of the last store or the next one; a bound number is small, or the greatest of its type.
 """
 import itertools
@@ -61,7 +61,7 @@ class Walks:
 
     def __init__(self, world):
         self.world, self.found = world, world.get(OBLIGATIONS, 'obligations')
-        for module, names in ((OBLIGATIONS, ('at_entry', 'after', 'check_head', 'at_head', 'into_body', 'returned')), (POSITIONS, ('define', 'first_side', 'join_term', 'join_guard'))):
+        for module, names in ((OBLIGATIONS, ('at_entry', 'behind', 'check_head', 'at_head', 'into_body', 'returned')), (POSITIONS, ('define', 'first_side', 'join_term', 'join_guard'))):
             for name in names:
                 self.listen(module, name, getattr(self, name))
 
@@ -368,7 +368,7 @@ class Run:
         return states[-1]
 
     def positions(self, f, due):
-        """what is said at what is due, and the positions before it and behind its checks"""
+        """what is said at what is due, and the positions before it and after its checks"""
         s = due.args[2] if due.name == 'Test' else due.args[0]
         said = self.walks.said[f.body, key(s)]
         if due.name == 'Test':

@@ -3,8 +3,8 @@
 
 use ss_io::{RealFiles, RealOut};
 use ss_main_messages::{
-    Heard, Seen, Unread, failed_message, refused_message, stopped_message, unread_message, usage,
-    verdict_messages,
+    Heard, Seen, Unread, failed_message, refused_message, spent_message, stopped_message,
+    unadmitted_message, unread_message, usage, verdict_messages,
 };
 use ss_report::{Status, status_line};
 use ss_top::specsharp;
@@ -63,6 +63,8 @@ fn of_source(
         }
         Status::Failed { kind, place } => failed_message(alloc, file, source, *place, *kind),
         Status::Stopped { place } => stopped_message(alloc, file, source, *place),
+        Status::NotAdmitted => unadmitted_message(alloc, file),
+        Status::StepsSpent => spent_message(alloc, file),
         Status::Unproved { countered, .. } => {
             let verdict = str::from_utf8(verdict).unwrap_or("");
             verdict_messages(alloc, file, source, verdict, countered, limits)

@@ -1,17 +1,22 @@
 -- The line of a source that is shown beside a message, and the mark below it.
-use Rattle.std.specs.Prelude.{ℕ, zero, suc, ◌-◌, ◌==◌, ◌||◌, nat_le, nat_lt, List, [], ◌∷◌, ◌++◌, length, map, take, drop, replicate, codes, if◌then◌else◌}
+use Rattle.std.specs.Prelude.{ℕ, zero, suc, ◌-◌, ◌==◌, ◌&&◌, ◌||◌, nat_le, nat_lt, Bool, List, [], ◌∷◌, ◌++◌, length, map, take, drop, replicate, codes, if◌then◌else◌}
 use Rattle.ss_core.specs.declared.names.Place.{Place}
 use Rattle.ss_lexer.specs.Reading.{without_mark}
+
+-- whether a line ends here: at a line feed, or at a carriage return with a line feed or nothing behind it
+abbrev pub ends_line : ℕ → List ℕ → Bool
+ends_line b [] = (b == 10) || (b == 13)
+ends_line b (c ∷ cs) = (b == 10) || ((b == 13) && (c == 10))
 
 -- how many bytes stand before the first line end
 abbrev pub line_length : List ℕ → ℕ
 line_length [] = 0
-line_length (b ∷ bs) = if b == 10 then 0 else suc (line_length bs)
+line_length (b ∷ bs) = if ends_line b bs then 0 else suc (line_length bs)
 
 abbrev pub first_line : List ℕ → List ℕ
 first_line bytes = take (line_length bytes) bytes
 
--- what stands after the first line end
+-- what stands after the first line feed
 abbrev pub after_line : List ℕ → List ℕ
 after_line [] = []
 after_line (b ∷ bs) = if b == 10 then bs else after_line bs

@@ -1,5 +1,6 @@
 -- What a message says of a rule and of a kind of check.
 use Rattle.std.specs.Prelude.{ℕ, ◌==◌, List, codes, if◌then◌else◌}
+use Rattle.std.specs.Str.{bytes_eq}
 use Rattle.ss_core.specs.declared.names.Kind.{Kind}
 use Rattle.ss_core.specs.declared.names.Kind.TheVariants as kind
 
@@ -25,13 +26,40 @@ sentence rule =
     else if rule == 28 then codes "the end of this method can be reached without a result; add a `return`"
     else if rule == 30 then codes "this may be null where what is never null is wanted; test it before, or give the other a type without `!`"
     else if rule == 31 then codes "this override differs from what it overrides in a `!`; write the same types"
-    else if rule == 40 then codes "this constructor leaves a field of a type with `!` without a value on some path"
+    else if rule == 40 then codes "this constructor, or that of a class without one, leaves a field of a type with `!` without a value on some path"
     else if rule == 41 then codes "`this` may not stand here, since the object isn't complete yet"
-    else if rule == 42 then codes "the constructor above is `[NotDelayed]`, so this one has to be it too"
+    else if rule == 42 then codes "the constructor above is `[NotDelayed]`, so this class needs one that is it too"
     else if rule == 50 then codes "an invariant may read fields of `this` and of what it owns alone"
     else if rule == 51 then codes "a question about levels and owners, `old` and `result` can't stand here"
     else if rule == 52 then codes "this attribute is unknown, can't stand here, or stands here already"
     else codes "this rule is broken"
+
+-- the sentence of a check that isn't shown to hold, by the name of its kind
+abbrev pub sentence_of_check : List ℕ → List ℕ
+sentence_of_check kind =
+    if bytes_eq kind (codes "Null") then codes "the object here isn't shown to be non-null"
+    else if bytes_eq kind (codes "Index") then codes "the index here isn't shown to be within the array"
+    else if bytes_eq kind (codes "Cast") then codes "the value here isn't shown to be of the type of the cast"
+    else if bytes_eq kind (codes "Overflow") then codes "the result here isn't shown to fit into an `int`"
+    else if bytes_eq kind (codes "ZeroDivisor") then codes "the divisor here isn't shown to differ from 0"
+    else if bytes_eq kind (codes "NegativeLength") then codes "the length here isn't shown to be at least 0"
+    else if bytes_eq kind (codes "Assert") then codes "this `assert` isn't shown to hold"
+    else if bytes_eq kind (codes "Precondition") then codes "a `requires` of what is called here, or its default contract, isn't shown to hold"
+    else if bytes_eq kind (codes "Postcondition") then codes "an `ensures`, or the default contract, isn't shown to hold at this return"
+    else if bytes_eq kind (codes "Frame") then codes "what is changed before this return isn't shown to be named by `modifies`, or by the default contract, or a new object to be at its full level"
+    else if bytes_eq kind (codes "LoopInvariant") then codes "an `invariant` of this loop isn't shown to hold"
+    else if bytes_eq kind (codes "LoopFrame") then codes "what is changed before this turn of the loop isn't shown to be named by `modifies`, or by the default contract, or a new object to be at its full level"
+    else if bytes_eq kind (codes "LoopLevel") then codes "the levels of objects aren't shown to stay as they are in this loop"
+    else if bytes_eq kind (codes "UnpackLevel") then codes "the object isn't shown to stand at the level that `expose` asks for"
+    else if bytes_eq kind (codes "UnpackCommitted") then codes "the object isn't shown to be free of an owner that is closed"
+    else if bytes_eq kind (codes "PackLevel") then codes "the object isn't shown to stand at the level that is closed here"
+    else if bytes_eq kind (codes "Invariant") then codes "an `invariant` of the class isn't shown to hold here"
+    else if bytes_eq kind (codes "PackOwned") then codes "what the object owns isn't shown to be consistent here"
+    else if bytes_eq kind (codes "WriteLevel") then codes "the object isn't shown to be exposed where its field is assigned"
+    else if bytes_eq kind (codes "WriteCommitted") then codes "the object isn't shown to be free to be changed here"
+    else if bytes_eq kind (codes "RepOwner") then codes "the value isn't shown to be free to be owned by a `[Rep]` field"
+    else if bytes_eq kind (codes "PeerOwner") then codes "the value isn't shown to have the owner that a `[Peer]` field asks for"
+    else codes "this isn't shown to hold"
 
 -- the sentence of a check that failed in a run
 abbrev pub failure : Kind → List ℕ
@@ -44,9 +72,9 @@ failure kind.NegativeLength = codes "the length here is below 0"
 failure kind.Assert = codes "this `assert` doesn't hold"
 failure kind.Precondition = codes "a `requires` of what is called here, or its default contract, doesn't hold"
 failure kind.Postcondition = codes "an `ensures`, or the default contract, doesn't hold at this return"
-failure kind.Frame = codes "something was changed before this return that `modifies` doesn't name"
+failure kind.Frame = codes "something was changed before this return that `modifies`, or the default contract, doesn't name, or a new object isn't at its full level"
 failure kind.LoopInvariant = codes "an `invariant` of this loop doesn't hold"
-failure kind.LoopFrame = codes "something was changed before this turn of the loop that `modifies` doesn't name"
+failure kind.LoopFrame = codes "something was changed before this turn of the loop that `modifies`, or the default contract, doesn't name, or a new object isn't at its full level"
 failure kind.LoopLevel = codes "an object that is exposed around this loop doesn't stand at the level that it stood at"
 failure kind.UnpackLevel = codes "the object doesn't stand at the level that `expose` asks for"
 failure kind.UnpackCommitted = codes "the object has an owner that is closed; expose the owner first"

@@ -12,7 +12,8 @@ mod verdict;
 
 pub use heard::Heard;
 pub use messages::{
-    Unread, failed_message, refused_message, stopped_message, unread_message, usage,
+    Unread, failed_message, refused_message, spent_message, stopped_message, unadmitted_message,
+    unread_message, usage,
 };
 pub use seen::Seen;
 pub use verdict::verdict_messages;

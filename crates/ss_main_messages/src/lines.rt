@@ -2,10 +2,20 @@
 
 ghost use Rattle.std.specs.Prelude.{◌≡◌, ◌≤◌, IfOk, drop, length, map, replicate, string_bytes, take};
 ghost use Rattle.ss_lexer.specs.Reading.{without_mark as without_mark_of};
-ghost use Rattle.ss_main_messages.specs.Lines.{after_line as after_line_of, after_lines as after_lines_of, first_line as first_line_of, hidden as hidden_of, line_at as line_of_place, line_length as line_length_of, mark as mark_after, marked as marked_part, part_at as part_of, pointed as pointed_at, shown as shown_as};
+ghost use Rattle.ss_main_messages.specs.Lines.{after_line as after_line_of, after_lines as after_lines_of, ends_line as ends_line_at, first_line as first_line_of, hidden as hidden_of, line_at as line_of_place, line_length as line_length_of, mark as mark_after, marked as marked_part, part_at as part_of, pointed as pointed_at, shown as shown_as};
 
 use ss_core::Place;
 use std::alloc::{AllocError, Global};
+
+// Whether a line ends here: at a line feed, or at a carriage return with a line feed or nothing after it.
+fn ends_line(byte: u8, behind: &[u8]) -> bool
+    ensures { result ≡ ends_line_at byte behind.now }
+{
+    match behind {
+        [] => byte == b'\n' || byte == b'\r',
+        [next, ..] => byte == b'\n' || (byte == b'\r' && *next == b'\n'),
+    }
+}
 
 // How many bytes stand before the first line end.
 fn line_length(bytes: &[u8]) -> usize
@@ -15,7 +25,7 @@ fn line_length(bytes: &[u8]) -> usize
     let mut count = 0;
     let mut rest = bytes;
     while let [byte, others @ ..] = rest {
-        if *byte == b'\n' {
+        if ends_line(*byte, others) {
             return count;
         }
         count += 1;
@@ -30,7 +40,7 @@ fn first_line(bytes: &[u8]) -> &[u8]
     &bytes[..line_length(bytes)]
 }
 
-// What stands after the first line end.
+// What stands after the first line feed.
 fn after_line(bytes: &[u8]) -> &[u8]
     ensures { result.now ≡ after_line_of bytes.now }
 {
@@ -80,8 +90,8 @@ fn hidden(column: u32) -> u32
     if column <= 80 { 0 } else { column - 40 }
 }
 
-// The first bytes, so many.
-fn front(bytes: &[u8], count: usize) -> &[u8]
+/// The first bytes, so many.
+pub(crate) fn front(bytes: &[u8], count: usize) -> &[u8]
     ensures { result.now ≡ take count bytes.now }
 {
     if bytes.len() <= count {

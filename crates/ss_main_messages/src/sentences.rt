@@ -1,7 +1,7 @@
 // What a message says of a rule and of a kind of check.
 
 ghost use Rattle.std.specs.Prelude.{◌≡◌};
-ghost use Rattle.ss_main_messages.specs.Sentences.{sentence as sentence_of, failure as failure_of};
+ghost use Rattle.ss_main_messages.specs.Sentences.{sentence as sentence_of, sentence_of_check as check_sentence, failure as failure_of};
 
 use ss_core::Kind;
 
@@ -33,9 +33,10 @@ pub(crate) fn sentence(rule: u16) -> &'static str
         30 =>
             "this may be null where what is never null is wanted; test it before, or give the other a type without `!`",
         31 => "this override differs from what it overrides in a `!`; write the same types",
-        40 => "this constructor leaves a field of a type with `!` without a value on some path",
+        40 =>
+            "this constructor, or that of a class without one, leaves a field of a type with `!` without a value on some path",
         41 => "`this` may not stand here, since the object isn't complete yet",
-        42 => "the constructor above is `[NotDelayed]`, so this one has to be it too",
+        42 => "the constructor above is `[NotDelayed]`, so this class needs one that is it too",
         50 => "an invariant may read fields of `this` and of what it owns alone",
         51 => "a question about levels and owners, `old` and `result` can't stand here",
         52 => "this attribute is unknown, can't stand here, or stands here already",
@@ -44,7 +45,9 @@ pub(crate) fn sentence(rule: u16) -> &'static str
 }
 
 /// The sentence of a kind of check, by the name that a verdict has for it.
-pub(crate) fn sentence_of_check(kind: &str) -> &'static str {
+pub(crate) fn sentence_of_check(kind: &str) -> &'static str
+    ensures { result.now ≡ check_sentence kind.now }
+{
     match kind {
         "Null" => "the object here isn't shown to be non-null",
         "Index" => "the index here isn't shown to be within the array",
@@ -53,11 +56,15 @@ pub(crate) fn sentence_of_check(kind: &str) -> &'static str {
         "ZeroDivisor" => "the divisor here isn't shown to differ from 0",
         "NegativeLength" => "the length here isn't shown to be at least 0",
         "Assert" => "this `assert` isn't shown to hold",
-        "Precondition" => "a `requires` of what is called here isn't shown to hold",
-        "Postcondition" => "an `ensures` isn't shown to hold at this return",
-        "Frame" => "what is changed here isn't shown to be named by `modifies`",
+        "Precondition" =>
+            "a `requires` of what is called here, or its default contract, isn't shown to hold",
+        "Postcondition" =>
+            "an `ensures`, or the default contract, isn't shown to hold at this return",
+        "Frame" =>
+            "what is changed before this return isn't shown to be named by `modifies`, or by the default contract, or a new object to be at its full level",
         "LoopInvariant" => "an `invariant` of this loop isn't shown to hold",
-        "LoopFrame" => "what this loop changes isn't shown to be named by `modifies`",
+        "LoopFrame" =>
+            "what is changed before this turn of the loop isn't shown to be named by `modifies`, or by the default contract, or a new object to be at its full level",
         "LoopLevel" => "the levels of objects aren't shown to stay as they are in this loop",
         "UnpackLevel" => "the object isn't shown to stand at the level that `expose` asks for",
         "UnpackCommitted" => "the object isn't shown to be free of an owner that is closed",
@@ -87,10 +94,11 @@ pub(crate) fn failure(kind: Kind) -> &'static str
         Kind::Precondition =>
             "a `requires` of what is called here, or its default contract, doesn't hold",
         Kind::Postcondition => "an `ensures`, or the default contract, doesn't hold at this return",
-        Kind::Frame => "something was changed before this return that `modifies` doesn't name",
+        Kind::Frame =>
+            "something was changed before this return that `modifies`, or the default contract, doesn't name, or a new object isn't at its full level",
         Kind::LoopInvariant => "an `invariant` of this loop doesn't hold",
         Kind::LoopFrame =>
-            "something was changed before this turn of the loop that `modifies` doesn't name",
+            "something was changed before this turn of the loop that `modifies`, or the default contract, doesn't name, or a new object isn't at its full level",
         Kind::LoopLevel =>
             "an object that is exposed around this loop doesn't stand at the level that it stood at",
         Kind::UnpackLevel => "the object doesn't stand at the level that `expose` asks for",

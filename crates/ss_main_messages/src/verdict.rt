@@ -1,5 +1,6 @@
 // The messages of a verdict.
 
+use crate::lines::{front, line_at};
 use crate::messages::{error, message};
 use crate::sentences::sentence_of_check;
 use crate::texts::model_texts;
@@ -7,6 +8,7 @@ use ss_core::Place;
 use ss_search_answers::Countered;
 use ss_top_words::Limits;
 use std::alloc::{AllocError, Global};
+use std::str;
 
 // A line of a verdict: the kind of a check that isn't shown to hold, where it stands, and what is said after it.
 #[derive(Clone, Copy, Debug, PartialEq, Eq)]
@@ -52,6 +54,43 @@ fn push_budget(text: &mut String, behind: &str) -> Result<(), AllocError> {
     }
 }
 
+// Whether the name of a class stands at the place: the word before it on its line is `class`.
+fn is_class_name(source: &[u8], place: Place) -> bool {
+    let before = place.column.saturating_sub(1) as usize;
+    let front = front(line_at(source, place), before);
+    let mut is_class = false;
+    for word in str::from_utf8(front).unwrap_or("").split_whitespace() {
+        is_class = word == "class";
+    }
+    is_class
+}
+
+// Adds which body of a class this is, that nobody wrote.
+fn push_unwritten(text: &mut String, class: &str, name: &str) -> Result<(), AllocError> {
+    if class == name {
+        writeln!(
+            text,
+            "    this is the constructor that {class} has since none is written"
+        )
+    } else {
+        writeln!(
+            text,
+            "    {class} inherits {name} as it is; make it `virtual` above, and override it here"
+        )
+    }
+}
+
+// The same, where a line of a verdict has these words after a place.
+fn push_body(text: &mut String, behind: &str) -> Result<(), AllocError> {
+    match behind.split_once('.') {
+        Some((class, rest)) => match rest.split_once(", ") {
+            Some((name, _)) => push_unwritten(text, class, name),
+            None => push_unwritten(text, class, rest),
+        },
+        None => Ok(()),
+    }
+}
+
 // The message of a check that isn't shown to hold.
 fn unproved_message(
     alloc: Global,
@@ -60,7 +99,11 @@ fn unproved_message(
     unproved: &Unproved<'_>,
 ) -> Result<String, AllocError> {
     let error = error(alloc, unproved.kind, sentence_of_check(unproved.kind))?;
-    message(alloc, file, source, unproved.place, error.as_str())
+    let mut text = message(alloc, file, source, unproved.place, error.as_str())?;
+    if is_class_name(source, unproved.place) {
+        push_body(&mut text, unproved.behind)?;
+    }
+    Ok(text)
 }
 
 // Adds what a model gives to locals and fields, where it gives them something.

@@ -2,7 +2,10 @@
 
 use crate::case::{Case, Expected, read_cases};
 use ss_io::{MemFiles, MemSink};
-use ss_main_messages::{failed_message, refused_message, stopped_message, verdict_messages};
+use ss_main_messages::{
+    failed_message, refused_message, spent_message, stopped_message, unadmitted_message,
+    verdict_messages,
+};
 use ss_report::{Status, status_line};
 use ss_top::specsharp;
 use ss_top_words::{DEFAULT_LIMITS, Limits, read_words};
@@ -50,6 +53,8 @@ fn messages(
         }
         Status::Failed { kind, place } => failed_message(alloc, "FILE", source, *place, *kind),
         Status::Stopped { place } => stopped_message(alloc, "FILE", source, *place),
+        Status::NotAdmitted => unadmitted_message(alloc, "FILE"),
+        Status::StepsSpent => spent_message(alloc, "FILE"),
         Status::Unproved { countered, .. } => {
             let verdict = str::from_utf8(verdict).unwrap_or("");
             verdict_messages(alloc, "FILE", source, verdict, countered, limits)
