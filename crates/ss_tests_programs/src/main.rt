@@ -1,10 +1,5 @@
-// Programs of another implementation: which of them `verify` proves, and checks that it leaves unproved in the others. And the command and its
-// messages once more, each handed on under clauses of its own contract: nothing calls these. The wrong bodies in `must-fail/` turn what they
-// answer, and the prover must refuse each.
+// Programs of another implementation: which of them `verify` proves, and checks that it leaves unproved in the others.
 #![tactic(auto)]
-
-mod command;
-mod messages;
 
 use ss_io::{MemFiles, MemSink};
 use ss_tests_verdicts::{Command, try_all};
