@@ -141,7 +141,7 @@ def try_sentences():
     with open(os.path.join(TOP, "crates", "ss_main_messages", "src", "messages.rt")) as source:
         said = source.read()
     for file in (TOP, os.path.join(TOP, "none"), os.path.join(TOP, "crates.txt", "none")):
-        expect("{file}: " + command_line.unread(file) + "\\n" in said, "the program says so of " + file)
+        expect('"' + command_line.unread(file) + '"' in said, "the program says so of " + file)
 
 
 def try_at_once(clone):

@@ -86,7 +86,7 @@ def unread(file):
     except FileNotFoundError:
         return "there is no such file; look at its name and at the folder that you are in"
     except OSError:
-        return "the file can't be read; see whether you may read it"
+        return "there is no such file, or it can't be read; look at its name, and see whether you may read it"
     return None
 
 
